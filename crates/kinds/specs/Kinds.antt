@@ -1,0 +1,249 @@
+-- Document 01, "The blocks": the table by kind. "Sixteen kinds, each with its inputs in this order, then its parameters."
+use Prim.Native.Nat.{ℕ, zero, suc, _+_, _*_}
+use mathlib.Core.Bool.{Bool, true, false, _&&_}
+use mathlib.Core.List.{List, [], _∷_}
+use lib.Dec.{leb, ltb}
+use lib.ListN.{length, getD}
+use lib.IntN.{ℤ, pos}
+use Rattle.words.specs.Signed.{minus, over, isWithin}
+use Rattle.kinds.specs.Time.{longest}
+use Rattle.kinds.specs.declared.Ticks.{Ticks}
+
+-- least and greatest
+pub record Range : Type 0 where
+  pub least : ℤ
+  pub greatest : ℤ
+
+infix 70 _to_
+abbrev pub _to_ : ℤ → ℤ → Range
+a to b = record { least = a; greatest = b }
+
+abbrev pub inRange : Range → ℤ → Bool
+inRange r x = isWithin x (r .least) (r .greatest)
+
+-- what a block's output is: a bit, or a number
+pub data Sort : Type 0 where
+  digital : Sort
+  analog : Sort
+
+-- what a block's number is: not used, Ta, or a count from 0 to a greatest
+pub data Number : Type 0 where
+  none : Number
+  elapsed : Number
+  upTo : ℕ → Number
+
+pub record Kind : Type 0 where
+  -- "at most four digital inputs"; the analog ones
+  pub digitals : ℕ
+  pub analogs : ℕ
+  -- "An unused input counts 1 for kinds 1 to 4 and 0 elsewhere"
+  pub unused : Bool
+  -- "Parameters are signed": least and greatest of each
+  pub parameters : List Range
+  -- how many settings follow the timebase, which is the first parameter; 0 where there is none
+  pub times : ℕ
+  -- "Option bit 0 is retentive, allowed on kinds 9 to 12"
+  pub retentive : Bool
+  pub output : Sort
+  -- the greatest remembered word; 0 where the kind has no use for it
+  pub remembered : ℕ
+  pub number : Number
+
+-- ---- the parameters
+
+-- "Gain A is −1000..1000 hundredths, B −10,000..10,000, On, Off and Δ −20,000..20,000"
+unfoldable pub scaled : List Range
+scaled = minus 1000 to pos 1000 ∷ minus 10000 to pos 10000 ∷ minus 20000 to pos 20000 ∷ minus 20000 to pos 20000 ∷ []
+
+-- base, T: "0 seconds (T 0..9999, hundredths)", the widest of the three
+unfoldable pub timed : List Range
+timed = pos 0 to pos 2 ∷ pos 0 to pos 9999 ∷ []
+
+-- "index 1..4, bit 1..8"
+unfoldable pub indexed : List Range
+indexed = pos 1 to pos 4 ∷ pos 1 to pos 8 ∷ []
+
+-- 16 bits with a sign; "V −32,768..32,767"
+abbrev pub sixteen : Range
+sixteen = minus 32768 to pos 32767
+
+unfoldable pub chosen : List Range
+chosen = sixteen ∷ sixteen ∷ sixteen ∷ sixteen ∷ []
+
+-- ---- the kinds
+
+-- a digital block with no parameters and no number, by its inputs, what an unused one counts, and its greatest remembered word
+abbrev pub gate : ℕ → Bool → ℕ → Kind
+gate n unused remembered =
+    record {
+      digitals = n;
+      analogs = 0;
+      unused = unused;
+      parameters = [];
+      times = 0;
+      retentive = false;
+      output = digital;
+      remembered = remembered;
+      number = none;
+    }
+
+-- a delay, by its inputs: "base, T"
+abbrev pub delay : ℕ → Kind
+delay n =
+    record {
+      digitals = n;
+      analogs = 0;
+      unused = false;
+      parameters = timed;
+      times = 1;
+      retentive = true;
+      output = digital;
+      remembered = 1;
+      number = elapsed;
+    }
+
+abbrev pub latching : Kind
+latching =
+    record {
+      digitals = 2;
+      analogs = 0;
+      unused = false;
+      parameters = [];
+      times = 0;
+      retentive = true;
+      output = digital;
+      remembered = 0;
+      number = none;
+    }
+
+abbrev pub shifting : Kind
+shifting =
+    record {
+      digitals = 3;
+      analogs = 0;
+      unused = false;
+      parameters = indexed;
+      times = 0;
+      retentive = true;
+      output = digital;
+      remembered = 1;
+      number = upTo 255;
+    }
+
+-- a threshold on analog inputs, by their number: "A, B, On, Off"
+abbrev pub trigger : ℕ → Kind
+trigger n =
+    record {
+      digitals = 0;
+      analogs = n;
+      unused = false;
+      parameters = scaled;
+      times = 0;
+      retentive = false;
+      output = digital;
+      remembered = 0;
+      number = none;
+    }
+
+abbrev pub choosing : Kind
+choosing =
+    record {
+      digitals = 3;
+      analogs = 0;
+      unused = false;
+      parameters = chosen;
+      times = 0;
+      retentive = false;
+      output = analog;
+      remembered = 0;
+      number = none;
+    }
+
+-- the table, by kind; no block has kind 0
+unfoldable pub kinds : List Kind
+kinds =
+    gate 0 false 0  --  0
+    ∷ gate 4 true 0  --  1 AND
+    ∷ gate 4 true 1  --  2 AND edge
+    ∷ gate 4 true 0  --  3 NAND
+    ∷ gate 4 true 1  --  4 NAND edge
+    ∷ gate 4 false 0  --  5 OR
+    ∷ gate 4 false 0  --  6 NOR
+    ∷ gate 2 false 0  --  7 XOR
+    ∷ gate 1 false 0  --  8 NOT
+    ∷ delay 1  --  9 on-delay: Trg
+    ∷ delay 2  -- 10 off-delay: Trg, R
+    ∷ latching  -- 11 latching relay: S, R
+    ∷ shifting  -- 12 shift register: In, Trg, Dir
+    ∷ trigger 1  -- 13 analog threshold trigger: Ax
+    ∷ trigger 2  -- 14 comparator: Ax, Ay
+    ∷ choosing  -- 15 multiplexer: En, S1, S2
+    ∷ trigger 1  -- 16 differential trigger: Ax
+    ∷ []
+
+unfoldable pub kindOf : ℕ → Kind
+kindOf kind = getD kinds kind (gate 0 false 0)
+
+unfoldable pub known : ℕ → Bool
+known kind = leb 1 kind && ltb kind (length kinds)
+
+-- ---- what follows from a kind
+
+-- "kind, options, connectors, parameters": a byte each, three bytes a connector, four a parameter
+abbrev pub contentLength : Kind → ℕ
+contentLength k = 2 + 3 * (k .digitals + k .analogs) + 4 * length (k .parameters)
+
+-- a parameter that a kind has not is 0
+abbrev pub rangeAt : Kind → ℕ → Range
+rangeAt k j = getD (k .parameters) j (pos 0 to pos 0)
+
+abbrev pub isAnalog : Sort → Bool
+isAnalog digital = false
+isAnalog analog = true
+
+-- ---- when parameters are allowed
+
+abbrev pub parameter : List ℤ → ℕ → ℤ
+parameter p j = getD p j (pos 0)
+
+-- a setting is in the range of its timebase
+abbrev pub settingFits : ℤ → ℤ → Bool
+settingFits base t = isWithin t (pos 0) (pos (longest (over base)))
+
+-- each of the settings behind the timebase is
+abbrev pub settingsFit : ℕ → List ℤ → Bool
+settingsFit zero p = true
+settingsFit (suc n) p = settingFits (parameter p 0) (parameter p (suc n)) && settingsFit n p
+
+-- each parameter is in its range
+abbrev pub rangesFit : Kind → List ℤ → Bool
+rangesFit k p =
+    inRange (rangeAt k 0) (parameter p 0)
+    && (inRange (rangeAt k 1) (parameter p 1)
+    && (inRange (rangeAt k 2) (parameter p 2)
+    && inRange (rangeAt k 3) (parameter p 3)))
+
+unfoldable pub allowed : ℕ → List ℤ → Bool
+allowed kind p = rangesFit (kindOf kind) p && settingsFit (kindOf kind .times) p
+
+-- ---- which words a block may have: "block words that the block's kind has no use for 0, .. bits 0 or 1, Ta 0..T in ticks,
+-- register 0..255, .. multiplexer outputs −32,768..32,767"
+
+abbrev pub sortRange : Sort → Range
+sortRange digital = pos 0 to pos 1
+sortRange analog = sixteen
+
+abbrev pub outputRange : Kind → Range
+outputRange k = sortRange (k .output)
+
+abbrev pub rememberedRange : Kind → Range
+rememberedRange k = pos 0 to pos (k .remembered)
+
+-- by the ticks set
+abbrev pub mostOf : Number → Ticks → ℕ
+mostOf none t = 0
+mostOf elapsed t = t .0
+mostOf (upTo n) t = n
+
+abbrev pub numberRange : Kind → Ticks → Range
+numberRange k t = pos 0 to pos (mostOf (k .number) t)

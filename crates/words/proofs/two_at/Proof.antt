@@ -1,0 +1,30 @@
+-- `words::two_at` meets its contract: the two bytes are the number's digits. Assumes nothing.
+use native.Mathlib.Omega.{arith}
+use Rattle.words.specs.Bytes.{numberAt}
+use borrow.Author.Needs.{needs}
+use Rattle.words.proofs.two_at.Statement.{statement}
+use Rattle.words.proofs.two_at.Tie as tie
+
+byte-at-requires : tie.Need-byte-at-requires
+byte-at-requires c κs = search needs
+
+mul-result : tie.Need-mul-result
+mul-result c = search needs
+
+add-byte-at : tie.Need-add-byte-at
+add-byte-at c = search needs
+
+byte-at-requires-2 : tie.Need-byte-at-requires-2
+byte-at-requires-2 c κs = search needs
+
+add-result : tie.Need-add-result
+add-result c = search needs
+
+returns : tie.Need-returns
+unfolding numberAt
+returns c = (omega arith, omega arith)
+
+pub two-at-spec : {M : Type 1} → statement M
+two-at-spec =
+    tie.close
+    (tie.spec byte-at-requires mul-result add-byte-at byte-at-requires-2 add-result returns)

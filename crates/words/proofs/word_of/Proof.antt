@@ -1,0 +1,12 @@
+-- `words::word_of` meets its contract. Assumes nothing.
+use Rattle.words.proofs.word_of.Statement.{statement}
+use Rattle.words.proofs.word_of.Tie as tie
+
+returns : tie.Need-returns
+returns c = simp (c .if1 .taken)
+
+returns-2 : tie.Need-returns-2
+returns-2 c = simp (c .if1 .left)
+
+pub word-of-spec : {M : Type 1} → statement M
+word-of-spec = tie.close (tie.spec returns returns-2)
