@@ -1,6 +1,5 @@
 // The one constant table by kind; settings, ticks, and the one conversion between them.
 ghost use mathlib.Core.Path.{_≡_};
-ghost use mathlib.Core.Bool.{_&&_};
 ghost use Prim.Native.Nat.{_≤_, _<_};
 ghost use lib.ListN.{length};
 ghost use lib.IntN.{pos};
@@ -230,12 +229,6 @@ fn settings_fit(kinds: &[[i32; 18]; 17], kind: usize, params: [i32; 4]) -> bool
     setting_fits(params[0], params[1])
 }
 
-fn both(a: bool, b: bool) -> bool
-    ensures { λ r. ⌜ r ≡ (a && b) ⌝ }
-{
-    a & b
-}
-
 // Whether the ranges of the table take the parameters.
 fn ranges_fit(kinds: &[[i32; 18]; 17], kind: usize, params: [i32; 4]) -> bool
     requires { ⌜ Lent (now kinds) kind ⌝ }
@@ -245,7 +238,7 @@ fn ranges_fit(kinds: &[[i32; 18]; 17], kind: usize, params: [i32; 4]) -> bool
     let b = parameter_fits(kinds, kind, 1, params[1]);
     let c = parameter_fits(kinds, kind, 2, params[2]);
     let d = parameter_fits(kinds, kind, 3, params[3]);
-    both(a, both(b, both(c, d)))
+    words::both(a, words::both(b, words::both(c, d)))
 }
 
 // Whether a block of a kind may have these parameters.
@@ -253,7 +246,7 @@ pub fn are_allowed(kinds: &[[i32; 18]; 17], kind: usize, params: [i32; 4]) -> bo
     requires { ⌜ Lent (now kinds) kind ⌝ }
     ensures { λ r. ⌜ r ≡ allowed kind params ⌝ }
 {
-    both(
+    words::both(
         ranges_fit(kinds, kind, params),
         settings_fit(kinds, kind, params),
     )

@@ -74,4 +74,8 @@ at-least-zero {l} {g} {x} e h =
     let a = ≤-sides {a = pos 0} {b = l} (leZ-yes h) in
     sides-≤ (omega arith)
 
+-- a value and its range, from what it equals
+pub ranged : {l g x y : ℤ} → x ≡ y → Between l g y → (x ≡ y) × Between l g x
+ranged e b = (e, rw e b)
+
 pub ruleset whole = (one-fits, sum-fits, difference-fits, product-fits, quot-fits, wider, at-least-zero)

@@ -1,5 +1,6 @@
 // Numbers: big-endian bytes of a slice, and signed words as bits, counts and amounts. Knows nothing of circuits.
 ghost use mathlib.Core.Path.{_≡_};
+ghost use mathlib.Core.Bool.{_&&_, _||_};
 ghost use Prim.Native.Nat.{_+_, _≤_, _<_, _^_};
 ghost use lib.ListN.{length, getD};
 ghost use lib.Seq.{sets};
@@ -122,6 +123,20 @@ pub fn within(x: i32, least: i32, greatest: i32) -> bool
     ensures { λ r. ⌜ r ≡ isWithin x least greatest ⌝ }
 {
     least <= x && x <= greatest
+}
+
+// Both bits, with no branch.
+pub fn both(a: bool, b: bool) -> bool
+    ensures { λ r. ⌜ r ≡ (a && b) ⌝ }
+{
+    a & b
+}
+
+// Either bit, with no branch.
+pub fn either(a: bool, b: bool) -> bool
+    ensures { λ r. ⌜ r ≡ (a || b) ⌝ }
+{
+    a | b
 }
 
 // A word as a bit: 0 is false.

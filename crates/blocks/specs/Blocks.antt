@@ -1,0 +1,92 @@
+-- One dispatch by kind: what a block's three words become, from its resolved inputs, its prepared parameters, its three words and e.
+use Prim.Native.Nat.{ℕ, zero, suc, _<_, _^_}
+use mathlib.Core.Path.{_≡_}
+use mathlib.Core.Bool.{Bool, cond}
+use mathlib.Core.List.{List, [], _∷_}
+use lib.Dec.{eqb}
+use lib.ListN.{getD}
+use lib.IntN.{ℤ, pos}
+use Rattle.words.specs.Signed.{minus, over, bitOf, Between}
+use Rattle.kinds.specs.Time.{settingOf, ticksOf}
+use Rattle.kinds.specs.Kinds.{kindOf, parameter, rangeAt, outputRange, rememberedRange, numberRange}
+use Rattle.kinds.specs.declared.Ticks.{Ticks}
+use Rattle.rules.specs.declared.BlockWords.{BlockWords}
+use Rattle.blocks.specs.declared.Prepared.{Prepared}
+use Rattle.rules.specs.Rules.{three, bit, andGate, andEdge, nandGate, nandEdge, orGate, norGate, xorGate, notGate, onDelay, offDelay, latchingRelay, shiftRegister, thresholdTrigger, compared, multiplexed, withOff}
+
+-- ---- parameters made ready: the setting in ticks, Off worked out
+
+abbrev pub ticks : ℕ → Ticks
+ticks n = record { 0 = n }
+
+-- by how many settings a kind has
+abbrev pub timeOf : ℕ → List ℤ → Ticks
+timeOf zero p = ticks 0
+timeOf (suc n) p = ticksOf (settingOf (parameter p 0) (parameter p 1))
+
+unfoldable pub prepared : ℕ → List ℤ → Prepared
+prepared kind p = record { time = timeOf (kindOf kind .times) p; params = cond (eqb kind 16) (withOff p) p }
+
+-- ---- a block's three words, as the rules read them
+
+abbrev pub wasBit : BlockWords → Bool
+wasBit was = bitOf (was .remembered)
+
+abbrev pub wasOn : BlockWords → Bool
+wasOn was = bitOf (was .output)
+
+abbrev pub wasNumber : BlockWords → ℕ
+wasNumber was = over (was .number)
+
+-- ---- the dispatch
+
+abbrev pub Rule : Type 0
+Rule = List Bool → List ℤ → Prepared → BlockWords → Ticks → BlockWords
+
+-- no block has such a kind
+abbrev pub idle : Rule
+idle b a p was e = three (pos 0) (pos 0) (pos 0)
+
+-- by kind, from 0; b the digital inputs, a the analog ones
+unfoldable pub rules : List Rule
+rules =
+    idle
+    ∷ (λ b a p was e. andGate b)
+    ∷ (λ b a p was e. andEdge b (wasBit was))
+    ∷ (λ b a p was e. nandGate b)
+    ∷ (λ b a p was e. nandEdge b (wasBit was))
+    ∷ (λ b a p was e. orGate b)
+    ∷ (λ b a p was e. norGate b)
+    ∷ (λ b a p was e. xorGate b)
+    ∷ (λ b a p was e. notGate b)
+    ∷ (λ b a p was e. onDelay (bit b 0) (wasBit was) (ticks (wasNumber was)) (p .time) e)
+    ∷ (λ b a p was e. offDelay (bit b 1) (bit b 0) (wasBit was) (wasOn was) (ticks (wasNumber was)) (p .time) e)
+    ∷ (λ b a p was e. latchingRelay (bit b 1) (bit b 0) (wasOn was))
+    ∷ (λ b a p was e. shiftRegister (bit b 0) (bit b 1) (bit b 2) (wasBit was) (wasNumber was) (over (parameter (p .params) 1)))
+    ∷ (λ b a p was e. thresholdTrigger (parameter a 0) (p .params) (wasOn was))
+    ∷ (λ b a p was e. compared (parameter a 0) (parameter a 1) (p .params) (wasOn was))
+    ∷ (λ b a p was e. multiplexed (bit b 0) (bit b 1) (bit b 2) (p .params))
+    ∷ (λ b a p was e. thresholdTrigger (parameter a 0) (p .params) (wasOn was))
+    ∷ []
+
+unfoldable pub workedOut : ℕ → Rule
+workedOut kind = getD rules kind idle
+
+-- ---- what the rules count on
+
+-- of the parameters of an accepted circuit. Off of kind 16 has no range of its own
+pub record Fit (kind : ℕ) (p : Prepared) : Type 0 where
+  pub time-is : p .time .0 < 2 ^ 31
+  pub params-are : (j : ℕ) → j < 4 → (kind ≡ 16 → j < 3) → Between (rangeAt (kindOf kind) j .least) (rangeAt (kindOf kind) j .greatest) (parameter (p .params) j)
+
+-- of the analog inputs that a sound record gives
+pub record Sixteen (a : List ℤ) : Type 0 where
+  pub first-is : Between (minus 32768) (pos 32767) (parameter a 0)
+  pub second-is : Between (minus 32768) (pos 32767) (parameter a 1)
+
+-- ---- three words that a sound record may have, by kind and ticks set
+
+pub record Sound (kind : ℕ) (t : Ticks) (w : BlockWords) : Type 0 where
+  pub output-is : Between (outputRange (kindOf kind) .least) (outputRange (kindOf kind) .greatest) (w .output)
+  pub remembered-is : Between (rememberedRange (kindOf kind) .least) (rememberedRange (kindOf kind) .greatest) (w .remembered)
+  pub number-is : Between (numberRange (kindOf kind) t .least) (numberRange (kindOf kind) t .greatest) (w .number)

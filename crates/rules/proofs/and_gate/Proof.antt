@@ -1,0 +1,19 @@
+-- `rules::and_gate` meets its contract. Assumes nothing.
+use mathlib.Core.Path.{_≡_, _∙_, refl, sym, ap}
+use Rattle.rules.specs.Rules.{andGate}
+use borrow.Author.Needs.{needs}
+use Rattle.rules.proofs.and_gate.Statement.{statement}
+use Rattle.rules.proofs.and_gate.Tie as tie
+
+all-of-requires : tie.Need-all-of-requires
+all-of-requires c κs = search needs
+
+shown-requires : tie.Need-shown-requires
+shown-requires c κs = search needs
+
+returns : tie.Need-returns
+unfolding andGate
+returns c = c .shown .ensures ∙ rw (c .before .all-of .ensures)
+
+pub and-gate-spec : {M : Type 1} → statement M
+and-gate-spec = tie.close (tie.spec all-of-requires shown-requires returns)

@@ -1,0 +1,170 @@
+-- Document 01, "The blocks": what each kind makes of its inputs, its parameters and what it had, on plain values. A bit is true where
+-- the paper says 1. `was` is the remembered bit, `q` the output of the last scan.
+use Prim.Native.Nat.{ℕ, _+_, _-_, _*_, _/_, _%_, _^_, min}
+use mathlib.Core.Bool.{Bool, true, false, not, cond, _&&_, _||_, Bool·beq}
+use mathlib.Core.List.{List, [], _∷_}
+use lib.Dec.{ltb, eqb}
+use lib.ListN.{getD}
+use lib.IntN.{ℤ, pos, _+ℤ_, _-ℤ_, _*ℤ_}
+use lib.Signed.{ltZ, leZ, quotZ}
+use Rattle.words.specs.Signed.{minus, wordOf, Between}
+use Rattle.kinds.specs.Kinds.{parameter}
+use Rattle.kinds.specs.declared.Ticks.{Ticks}
+use Rattle.rules.specs.declared.BlockWords.{BlockWords}
+
+-- "three for each block: output, remembered bit, .. number"
+abbrev pub three : ℤ → ℤ → ℤ → BlockWords
+three output remembered number = record { output = output; remembered = remembered; number = number }
+
+-- a digital block's: Q, what it remembers, its number
+abbrev pub gives : Bool → Bool → ℕ → BlockWords
+gives q bit n = three (wordOf q) (wordOf bit) (pos n)
+
+-- Q alone
+abbrev pub shows : Bool → BlockWords
+shows q = gives q false 0
+
+-- ---- kinds 1 to 8, on four bits
+
+-- input i, from 0
+abbrev pub bit : List Bool → ℕ → Bool
+bit b i = getD b i false
+
+abbrev pub allOf : List Bool → Bool
+allOf b = bit b 0 && (bit b 1 && (bit b 2 && bit b 3))
+
+abbrev pub someOf : List Bool → Bool
+someOf b = bit b 0 || (bit b 1 || (bit b 2 || bit b 3))
+
+-- 1 AND: "all are 1"
+unfoldable pub andGate : List Bool → BlockWords
+andGate b = shows (allOf b)
+
+-- 2 AND edge: "all are 1 now and were not all 1 last scan"; remembered "all inputs 1 for kinds 2 and 4"
+unfoldable pub andEdge : List Bool → Bool → BlockWords
+andEdge b was = gives (allOf b && not was) (allOf b) 0
+
+-- 3 NAND: "the opposite" of 1
+unfoldable pub nandGate : List Bool → BlockWords
+nandGate b = shows (not (allOf b))
+
+-- 4 NAND edge: "not all are 1 now and all were 1 last scan"
+unfoldable pub nandEdge : List Bool → Bool → BlockWords
+nandEdge b was = gives (not (allOf b) && was) (allOf b) 0
+
+-- 5 OR: "some is 1"
+unfoldable pub orGate : List Bool → BlockWords
+orGate b = shows (someOf b)
+
+-- 6 NOR: "the opposite" of 5
+unfoldable pub norGate : List Bool → BlockWords
+norGate b = shows (not (someOf b))
+
+-- 7 XOR: "they differ"
+unfoldable pub xorGate : List Bool → BlockWords
+xorGate b = shows (not (Bool·beq (bit b 0) (bit b 1)))
+
+-- 8 NOT: "the opposite" of its input
+unfoldable pub notGate : List Bool → BlockWords
+notGate b = shows (not (bit b 0))
+
+-- ---- the delays: Ta the ticks run, T the ticks set, e the ticks since the last latch
+
+-- "Ta = min(T, Ta + e)"
+abbrev pub grown : Ticks → Ticks → Ticks → ℕ
+grown ta t e = min (t .0) (ta .0 + e .0)
+
+-- "With Trg 1, Q is 1 exactly when Ta = T"; Trg is remembered
+abbrev pub runs : ℕ → Ticks → BlockWords
+runs ta t = gives (eqb ta (t .0)) true ta
+
+-- 9 on-delay: "Trg 0: Ta = 0, Q = 0. Trg rises: Ta = 0. Trg stays 1: Ta = min(T, Ta + e)."
+unfoldable pub onDelay : Bool → Bool → Ticks → Ticks → Ticks → BlockWords
+onDelay false was ta t e = gives false false 0
+onDelay true false ta t e = runs 0 t
+onDelay true true ta t e = runs (grown ta t e) t
+
+-- "if that is T, Q = 0 and Ta = 0"
+abbrev pub fades : ℕ → Ticks → BlockWords
+fades ta t = cond (eqb ta (t .0)) (gives false false 0) (gives true false ta)
+
+-- 10 off-delay, on R, Trg, Trg of the last scan and Q of the last scan: "R: Q = 0, Ta = 0. Else Trg 1: Q = 1, Ta = 0. Else, Trg just
+-- fell: Ta = 0, Q is 1 exactly when it was 1 and T > 0. Else if Q was 1: Ta = min(T, Ta + e); .. Else no change. Trg is remembered in
+-- every case."
+unfoldable pub offDelay : Bool → Bool → Bool → Bool → Ticks → Ticks → Ticks → BlockWords
+offDelay true trg was q ta t e = gives false trg 0
+offDelay false true was q ta t e = gives true true 0
+offDelay false false true q ta t e = gives (q && ltb 0 (t .0)) false 0
+offDelay false false false true ta t e = fades (grown ta t e) t
+offDelay false false false false ta t e = gives false false (ta .0)
+
+-- ---- the memories
+
+-- 11 latching relay, on R and S: "0 if R, else 1 if S, else as before"
+unfoldable pub latchingRelay : Bool → Bool → Bool → BlockWords
+latchingRelay true s q = shows false
+latchingRelay false true q = shows true
+latchingRelay false false q = shows q
+
+-- a bit as a digit
+abbrev pub digit : Bool → ℕ
+digit true = 1
+digit false = 0
+
+-- "the register with bit j weighing 2^(j−1)": bit j, 1..8
+abbrev pub registerBit : ℕ → ℕ → Bool
+registerBit r j = eqb (r / 2 ^ (j - 1) % 2) 1
+
+-- "Dir 0 moves bit 1 to bit 2 and so on, In enters bit 1; Dir 1 moves down, In enters bit 8."
+abbrev pub shifted : Bool → Bool → ℕ → ℕ
+shifted false x r = (2 * r + digit x) % 256
+shifted true x r = r / 2 + 128 * digit x
+
+-- "On a rising Trg"
+abbrev pub stepped : Bool → Bool → Bool → ℕ → ℕ
+stepped rises down x r = cond rises (shifted down x r) r
+
+-- 12 shift register, on In, Trg, Dir: "that bit after the step"
+unfoldable pub shiftRegister : Bool → Bool → Bool → Bool → ℕ → ℕ → BlockWords
+shiftRegister x trg down was r j =
+    let next = stepped (trg && not was) down x r in
+    gives (registerBit next j) trg next
+
+-- ---- thresholds: the parameters are A, B, On, Off
+
+-- "Actual value = (input · A) / 100 with the fraction dropped toward zero, plus B."
+unfoldable pub actualOf : ℤ → ℤ → ℤ → ℤ
+actualOf x a b = quotZ (x *ℤ a) (pos 100) +ℤ b
+
+-- "If On ≥ Off: 1 above On, 0 at or below Off, else as before. If On < Off: 1 exactly when On ≤ value < Off."
+unfoldable pub triggersOn : ℤ → ℤ → ℤ → Bool → Bool
+triggersOn value on off q =
+    cond (leZ off on)
+    (cond (ltZ on value) true (cond (leZ value off) false q))
+    (leZ on value && ltZ value off)
+
+abbrev pub triggered : ℤ → List ℤ → Bool → BlockWords
+triggered value p q = shows (triggersOn value (parameter p 2) (parameter p 3) q)
+
+-- what an input, a gain and an offset may be
+pub record Scaled (input gain offset : ℤ) : Type 0 where
+  pub input-is : Between (minus 32768) (pos 32767) input
+  pub gain-is : Between (minus 1000) (pos 1000) gain
+  pub offset-is : Between (minus 10000) (pos 10000) offset
+
+-- 13 analog threshold trigger: "on actual Ax"
+unfoldable pub thresholdTrigger : ℤ → List ℤ → Bool → BlockWords
+thresholdTrigger ax p q = triggered (actualOf ax (parameter p 0) (parameter p 1)) p q
+
+-- 14 comparator: "on actual Ax minus actual Ay"
+unfoldable pub compared : ℤ → ℤ → List ℤ → Bool → BlockWords
+compared ax ay p q =
+    triggered (actualOf ax (parameter p 0) (parameter p 1) -ℤ actualOf ay (parameter p 0) (parameter p 1)) p q
+
+-- 15 multiplexer, on En, S1, S2: "0 if En is 0, else V(1 + 2·S1 + S2)"; V1 is the first parameter
+unfoldable pub multiplexed : Bool → Bool → Bool → List ℤ → BlockWords
+multiplexed en s1 s2 p = three (cond en (parameter p (2 * digit s1 + digit s2)) (pos 0)) (pos 0) (pos 0)
+
+-- 16 differential trigger: "as 13, Off = On + Δ"; this makes of A, B, On, Δ the parameters of 13
+abbrev pub withOff : List ℤ → List ℤ
+withOff p = parameter p 0 ∷ parameter p 1 ∷ parameter p 2 ∷ (parameter p 2 +ℤ parameter p 3) ∷ []

@@ -1,0 +1,317 @@
+// What a block's output and memory become, on plain values.
+ghost use mathlib.Core.Path.{_≡_};
+ghost use Prim.Native.Nat.{_≤_, _<_, _^_};
+ghost use lib.IntN.{pos, _-ℤ_};
+ghost use Rattle.words.specs.Signed.{Between, minus};
+ghost use Rattle.kinds.specs.Kinds.{parameter};
+ghost use Rattle.rules.specs.Rules.{three, gives, shows, bit, allOf, someOf, andGate, andEdge, nandGate, nandEdge, orGate, norGate, xorGate, notGate, grown, fades, onDelay, offDelay, latchingRelay, digit, shifted, stepped, registerBit, shiftRegister, actualOf, triggersOn, triggered, Scaled, thresholdTrigger, compared, multiplexed, withOff};
+use kinds::Ticks;
+
+// A block's three words.
+pub struct BlockWords {
+    pub output: i32,
+    pub remembered: i32,
+    pub number: i32,
+}
+
+// The one place where three words are put together.
+fn three_of(output: i32, remembered: i32, number: i32) -> BlockWords
+    ensures { λ r. ⌜ r ≡ three output remembered number ⌝ }
+{
+    BlockWords {
+        output,
+        remembered,
+        number,
+    }
+}
+
+// The words of a digital block.
+fn given(q: bool, bit: bool, number: u32) -> BlockWords
+    requires { ⌜ number < 2 ^ 31 ⌝ }
+    ensures { λ r. ⌜ r ≡ gives q bit number ⌝ }
+{
+    three_of(
+        words::word_of(q),
+        words::word_of(bit),
+        words::word_of_count(number),
+    )
+}
+
+// The words of a digital block that has no memory.
+fn shown(q: bool) -> BlockWords
+    ensures { λ r. ⌜ r ≡ shows q ⌝ }
+{
+    given(q, false, 0)
+}
+
+// ---- kinds 1 to 8
+
+fn all_of(bits: [bool; 4]) -> bool
+    ensures { λ r. ⌜ r ≡ allOf bits ⌝ }
+{
+    words::both(bits[0], words::both(bits[1], words::both(bits[2], bits[3])))
+}
+
+fn some_of(bits: [bool; 4]) -> bool
+    ensures { λ r. ⌜ r ≡ someOf bits ⌝ }
+{
+    words::either(
+        bits[0],
+        words::either(bits[1], words::either(bits[2], bits[3])),
+    )
+}
+
+// Kind 1.
+pub fn and_gate(bits: [bool; 4]) -> BlockWords
+    ensures { λ r. ⌜ r ≡ andGate bits ⌝ }
+{
+    shown(all_of(bits))
+}
+
+// Kind 2.
+pub fn and_edge(bits: [bool; 4], was: bool) -> BlockWords
+    ensures { λ r. ⌜ r ≡ andEdge bits was ⌝ }
+{
+    let all = all_of(bits);
+    given(all & !was, all, 0)
+}
+
+// Kind 3.
+pub fn nand_gate(bits: [bool; 4]) -> BlockWords
+    ensures { λ r. ⌜ r ≡ nandGate bits ⌝ }
+{
+    shown(!all_of(bits))
+}
+
+// Kind 4.
+pub fn nand_edge(bits: [bool; 4], was: bool) -> BlockWords
+    ensures { λ r. ⌜ r ≡ nandEdge bits was ⌝ }
+{
+    let all = all_of(bits);
+    given(!all & was, all, 0)
+}
+
+// Kind 5.
+pub fn or_gate(bits: [bool; 4]) -> BlockWords
+    ensures { λ r. ⌜ r ≡ orGate bits ⌝ }
+{
+    shown(some_of(bits))
+}
+
+// Kind 6.
+pub fn nor_gate(bits: [bool; 4]) -> BlockWords
+    ensures { λ r. ⌜ r ≡ norGate bits ⌝ }
+{
+    shown(!some_of(bits))
+}
+
+// Kind 7.
+pub fn xor_gate(bits: [bool; 4]) -> BlockWords
+    ensures { λ r. ⌜ r ≡ xorGate bits ⌝ }
+{
+    shown(bits[0] ^ bits[1])
+}
+
+// Kind 8.
+pub fn not_gate(bits: [bool; 4]) -> BlockWords
+    ensures { λ r. ⌜ r ≡ notGate bits ⌝ }
+{
+    shown(!bits[0])
+}
+
+// ---- the delays
+
+// The ticks run, e ticks later, and no more than those set.
+fn grown_to(ta: Ticks, t: Ticks, e: Ticks) -> u32
+    requires { ⌜ (ta .0 < 2 ^ 31) × (e .0 < 2 ^ 31) ⌝ }
+    ensures { λ r. ⌜ r ≡ grown ta t e ⌝ }
+{
+    let sum = ta.0 + e.0;
+    if t.0 < sum { t.0 } else { sum }
+}
+
+// Kind 9.
+pub fn on_delay(trg: bool, was: bool, ta: Ticks, t: Ticks, e: Ticks) -> BlockWords
+    requires { ⌜ (ta .0 < 2 ^ 31) × (t .0 < 2 ^ 31) × (e .0 < 2 ^ 31) ⌝ }
+    ensures { λ r. ⌜ r ≡ onDelay trg was ta t e ⌝ }
+{
+    if !trg {
+        return given(false, false, 0);
+    }
+    if !was {
+        return given(0 == t.0, true, 0);
+    }
+    let run = grown_to(ta, t, e);
+    given(run == t.0, true, run)
+}
+
+// The off-delay with Q 1 and Trg 0, now and in the last scan.
+fn fading(ta: Ticks, t: Ticks, e: Ticks) -> BlockWords
+    requires { ⌜ (ta .0 < 2 ^ 31) × (t .0 < 2 ^ 31) × (e .0 < 2 ^ 31) ⌝ }
+    ensures { λ r. ⌜ r ≡ fades (grown ta t e) t ⌝ }
+{
+    let run = grown_to(ta, t, e);
+    if run == t.0 {
+        return given(false, false, 0);
+    }
+    given(true, false, run)
+}
+
+// Kind 10.
+pub fn off_delay(
+    r: bool,
+    trg: bool,
+    was: bool,
+    q: bool,
+    ta: Ticks,
+    t: Ticks,
+    e: Ticks,
+) -> BlockWords
+    requires { ⌜ (ta .0 < 2 ^ 31) × (t .0 < 2 ^ 31) × (e .0 < 2 ^ 31) ⌝ }
+    ensures { λ w. ⌜ w ≡ offDelay r trg was q ta t e ⌝ }
+{
+    if r {
+        return given(false, trg, 0);
+    }
+    if trg {
+        return given(true, true, 0);
+    }
+    if was {
+        return given(q & (0 < t.0), false, 0);
+    }
+    if q {
+        return fading(ta, t, e);
+    }
+    given(false, false, ta.0)
+}
+
+// ---- the memories
+
+// Kind 11.
+pub fn latching_relay(r: bool, s: bool, q: bool) -> BlockWords
+    ensures { λ w. ⌜ w ≡ latchingRelay r s q ⌝ }
+{
+    if r {
+        return shown(false);
+    }
+    if s {
+        return shown(true);
+    }
+    shown(q)
+}
+
+fn digit_of(b: bool) -> u32
+    ensures { λ r. ⌜ (r ≡ digit b) × (r ≤ 1) ⌝ }
+{
+    if b { 1 } else { 0 }
+}
+
+// The register moved by one bit.
+fn shifted_by(down: bool, x: bool, register: u32) -> u32
+    requires { ⌜ register < 2 ^ 31 ⌝ }
+    ensures { λ r. ⌜ (r ≡ shifted down x register) × (r < 2 ^ 31) ⌝ }
+{
+    let one = digit_of(x);
+    if down {
+        return register / 2 + 128 * one;
+    }
+    (2 * register + one) % 256
+}
+
+// The register after the scan.
+fn stepped_to(rises: bool, down: bool, x: bool, register: u32) -> u32
+    requires { ⌜ register < 2 ^ 31 ⌝ }
+    ensures { λ r. ⌜ (r ≡ stepped rises down x register) × (r < 2 ^ 31) ⌝ }
+{
+    if rises {
+        return shifted_by(down, x, register);
+    }
+    register
+}
+
+// Kind 12.
+pub fn shift_register(
+    x: bool,
+    trg: bool,
+    down: bool,
+    was: bool,
+    register: u32,
+    j: u32,
+) -> BlockWords
+    requires { ⌜ (register < 2 ^ 31) × (1 ≤ j) × (j ≤ 8) ⌝ }
+    ensures { λ r. ⌜ r ≡ shiftRegister x trg down was register j ⌝ }
+{
+    let next = stepped_to(trg & !was, down, x, register);
+    let place = j - 1;
+    given((next >> place) % 2 == 1, trg, next)
+}
+
+// ---- thresholds
+
+// The actual value of an analog input.
+pub fn actual(input: i32, gain: i32, offset: i32) -> i32
+    requires { ⌜ Scaled input gain offset ⌝ }
+    ensures { λ r. ⌜ (r ≡ actualOf input gain offset) × Between (minus 337680) (pos 337680) r ⌝ }
+{
+    input * gain / 100 + offset
+}
+
+// Whether a value triggers.
+pub fn triggers(value: i32, on: i32, off: i32, q: bool) -> bool
+    ensures { λ r. ⌜ r ≡ triggersOn value on off q ⌝ }
+{
+    if off <= on {
+        if on < value {
+            return true;
+        }
+        if value <= off {
+            return false;
+        }
+        return q;
+    }
+    (on <= value) & (value < off)
+}
+
+// The words of a block that triggers on a value.
+fn triggered_by(value: i32, params: [i32; 4], q: bool) -> BlockWords
+    ensures { λ r. ⌜ r ≡ triggered value params q ⌝ }
+{
+    shown(triggers(value, params[2], params[3], q))
+}
+
+// Kind 13, and kind 16 with its Off worked out.
+pub fn threshold_trigger(ax: i32, params: [i32; 4], q: bool) -> BlockWords
+    requires { ⌜ Scaled ax (parameter params 0) (parameter params 1) ⌝ }
+    ensures { λ r. ⌜ r ≡ thresholdTrigger ax params q ⌝ }
+{
+    triggered_by(actual(ax, params[0], params[1]), params, q)
+}
+
+// Kind 14.
+pub fn comparator(ax: i32, ay: i32, params: [i32; 4], q: bool) -> BlockWords
+    requires { ⌜ Scaled ax (parameter params 0) (parameter params 1) × Scaled ay (parameter params 0) (parameter params 1) ⌝ }
+    ensures { λ r. ⌜ r ≡ compared ax ay params q ⌝ }
+{
+    let x = actual(ax, params[0], params[1]);
+    let y = actual(ay, params[0], params[1]);
+    triggered_by(x - y, params, q)
+}
+
+// Kind 15.
+pub fn multiplexer(en: bool, s1: bool, s2: bool, params: [i32; 4]) -> BlockWords
+    ensures { λ r. ⌜ r ≡ multiplexed en s1 s2 params ⌝ }
+{
+    if !en {
+        return three_of(0, 0, 0);
+    }
+    let place = (2 * digit_of(s1) + digit_of(s2)) as usize;
+    three_of(params[place], 0, 0)
+}
+
+// Kind 16: its parameters as kind 13 takes them.
+pub fn with_off(params: [i32; 4]) -> [i32; 4]
+    requires { ⌜ Between (minus 20000) (pos 20000) (parameter params 2) × Between (minus 20000) (pos 20000) (parameter params 3) ⌝ }
+    ensures { λ r. ⌜ r ≡ withOff params ⌝ }
+{
+    [params[0], params[1], params[2], params[2] + params[3]]
+}
