@@ -8,7 +8,7 @@ use lib.ListN.{getD}
 use lib.IntN.{ℤ, pos}
 use Rattle.words.specs.Signed.{minus, over, bitOf, Between}
 use Rattle.kinds.specs.Time.{settingOf, ticksOf}
-use Rattle.kinds.specs.Kinds.{kindOf, parameter, rangeAt, outputRange, rememberedRange, numberRange}
+use Rattle.kinds.specs.Kinds.{Kind, In, kindOf, parameter, rangeAt, outputRange, rememberedRange, numberRange}
 use Rattle.kinds.specs.declared.Ticks.{Ticks}
 use Rattle.rules.specs.declared.BlockWords.{BlockWords}
 use Rattle.blocks.specs.declared.Prepared.{Prepared}
@@ -77,7 +77,12 @@ workedOut kind = getD rules kind idle
 -- of the parameters of an accepted circuit. Off of kind 16 has no range of its own
 pub record Fit (kind : ℕ) (p : Prepared) : Type 0 where
   pub time-is : p .time .0 < 2 ^ 31
-  pub params-are : (j : ℕ) → j < 4 → (kind ≡ 16 → j < 3) → Between (rangeAt (kindOf kind) j .least) (rangeAt (kindOf kind) j .greatest) (parameter (p .params) j)
+  pub params-are : (j : ℕ) → j < 4 → (kind ≡ 16 → j < 3) → In (rangeAt (kindOf kind) j) (parameter (p .params) j)
+
+-- of the gain and the offset among them
+pub record Scaling (p : Prepared) : Type 0 where
+  pub gain-is : Between (minus 1000) (pos 1000) (parameter (p .params) 0)
+  pub offset-is : Between (minus 10000) (pos 10000) (parameter (p .params) 1)
 
 -- of the analog inputs that a sound record gives
 pub record Sixteen (a : List ℤ) : Type 0 where
@@ -86,7 +91,7 @@ pub record Sixteen (a : List ℤ) : Type 0 where
 
 -- ---- three words that a sound record may have, by kind and ticks set
 
-pub record Sound (kind : ℕ) (t : Ticks) (w : BlockWords) : Type 0 where
-  pub output-is : Between (outputRange (kindOf kind) .least) (outputRange (kindOf kind) .greatest) (w .output)
-  pub remembered-is : Between (rememberedRange (kindOf kind) .least) (rememberedRange (kindOf kind) .greatest) (w .remembered)
-  pub number-is : Between (numberRange (kindOf kind) t .least) (numberRange (kindOf kind) t .greatest) (w .number)
+pub record Sound (k : Kind) (t : Ticks) (w : BlockWords) : Type 0 where
+  pub output-is : In (outputRange k) (w .output)
+  pub remembered-is : In (rememberedRange k) (w .remembered)
+  pub number-is : In (numberRange k t) (w .number)

@@ -6,8 +6,8 @@ ghost use lib.IntN.{pos};
 ghost use Rattle.words.specs.Signed.{Between, over};
 ghost use Rattle.kinds.specs.Kinds.{kindOf, parameter, allowed};
 ghost use Rattle.kinds.specs.Table.{Lent};
-ghost use Rattle.rules.specs.Rules.{bit, onDelay, offDelay, shiftRegister};
-ghost use Rattle.blocks.specs.Blocks.{timeOf, prepared, wasBit, wasOn, wasNumber, ticks, workedOut, Fit, Sixteen};
+ghost use Rattle.rules.specs.Rules.{three, bit, onDelay, offDelay, latchingRelay, shiftRegister, thresholdTrigger, compared, multiplexed};
+ghost use Rattle.blocks.specs.Blocks.{timeOf, prepared, wasBit, wasOn, wasNumber, ticks, workedOut, Fit, Sixteen, Scaling};
 use kinds::Ticks;
 use rules::BlockWords;
 
@@ -91,4 +91,77 @@ fn shift_block(bits: [bool; 4], p: Prepared, was: BlockWords) -> BlockWords
     let register = was_number(was);
     let j = words::amount_of(parameter_of(p, 1));
     rules::shift_register(bits[0], bits[1], bits[2], was_bit(was), register, j)
+}
+
+fn relay_block(bits: [bool; 4], was: BlockWords) -> BlockWords
+    ensures { λ r. ⌜ r ≡ latchingRelay (bit bits 1) (bit bits 0) (wasOn was) ⌝ }
+{
+    rules::latching_relay(bits[1], bits[0], was_on(was))
+}
+
+fn trigger_block(analog: [i32; 2], p: Prepared, was: BlockWords) -> BlockWords
+    requires { ⌜ Sixteen analog × Scaling p ⌝ }
+    ensures { λ r. ⌜ r ≡ thresholdTrigger (parameter analog 0) (p .params) (wasOn was) ⌝ }
+{
+    let params = p.params;
+    rules::threshold_trigger(analog[0], params, was_on(was))
+}
+
+fn compare_block(analog: [i32; 2], p: Prepared, was: BlockWords) -> BlockWords
+    requires { ⌜ Sixteen analog × Scaling p ⌝ }
+    ensures { λ r. ⌜ r ≡ compared (parameter analog 0) (parameter analog 1) (p .params) (wasOn was) ⌝ }
+{
+    let params = p.params;
+    rules::comparator(analog[0], analog[1], params, was_on(was))
+}
+
+fn choice_block(bits: [bool; 4], p: Prepared) -> BlockWords
+    ensures { λ r. ⌜ r ≡ multiplexed (bit bits 0) (bit bits 1) (bit bits 2) (p .params) ⌝ }
+{
+    let params = p.params;
+    rules::multiplexer(bits[0], bits[1], bits[2], params)
+}
+
+// No block has another kind.
+fn nothing() -> BlockWords
+    ensures { λ r. ⌜ r ≡ three (pos 0) (pos 0) (pos 0) ⌝ }
+{
+    BlockWords {
+        output: 0,
+        remembered: 0,
+        number: 0,
+    }
+}
+
+// What a block's three words become.
+pub fn worked_out(
+    kind: usize,
+    bits: [bool; 4],
+    analog: [i32; 2],
+    p: Prepared,
+    was: BlockWords,
+    e: Ticks,
+) -> BlockWords
+    requires { ⌜ Fit kind p × Sixteen analog × (e .0 < 2 ^ 31) ⌝ }
+    ensures { λ r. ⌜ r ≡ workedOut kind bits analog p was e ⌝ }
+{
+    match kind {
+        1 => rules::and_gate(bits),
+        2 => rules::and_edge(bits, was_bit(was)),
+        3 => rules::nand_gate(bits),
+        4 => rules::nand_edge(bits, was_bit(was)),
+        5 => rules::or_gate(bits),
+        6 => rules::nor_gate(bits),
+        7 => rules::xor_gate(bits),
+        8 => rules::not_gate(bits),
+        9 => on_block(bits, p, was, e),
+        10 => off_block(bits, p, was, e),
+        11 => relay_block(bits, was),
+        12 => shift_block(bits, p, was),
+        13 => trigger_block(analog, p, was),
+        14 => compare_block(analog, p, was),
+        15 => choice_block(bits, p),
+        16 => trigger_block(analog, p, was),
+        _ => nothing(),
+    }
 }

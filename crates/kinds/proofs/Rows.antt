@@ -5,9 +5,11 @@ use mathlib.Core.List.{List, [], _∷_}
 use Prim.Native.Nat.{ℕ, zero, suc, _+_, _≤_, _<_}
 use native.Mathlib.Nat.{le-of-suc-le-suc, not-suc-le-zero}
 use native.Mathlib.Omega.{arith}
-use lib.Dec.{T, leb, leb→le}
+use borrow.Author.Tests.{leb-true}
+use lib.Dec.{leb}
 use lib.ListN.{length, getD, List·getD-map}
 use lib.IntN.{ℤ, pos}
+use Rattle.words.proofs.Bounds.{and-true}
 use Rattle.kinds.specs.Kinds.{Kind, gate, kinds, kindOf, contentLength, rangeAt, scaled, timed, indexed, chosen}
 use Rattle.kinds.specs.Table.{rowOf, kindsTable, cell}
 
@@ -43,26 +45,21 @@ greatest-is kind (suc (suc (suc (suc j)))) h = absurd (omega arith)
 
 -- ---- one test over the whole table, and what it says of each kind
 
-left : (a b : Bool) → T (a && b) → T a
-left true b t = tt
-left false b t = t
-
-right : (a b : Bool) → T (a && b) → T b
-right true b t = t
-right false b t = absurd t
-
 abbrev pub every : (Kind → Bool) → List Kind → Bool
 every f [] = true
 every f (k ∷ ks) = f k && every f ks
 
-pub at-every : (f : Kind → Bool) (ks : List Kind) (d : Kind) → T (f d) → T (every f ks) → (i : ℕ) → T (f (getD ks i d))
-at-every f [] d t ts i = t
-at-every f (k ∷ ks) d t ts zero = left (f k) (every f ks) ts
-at-every f (k ∷ ks) d t ts (suc i) = at-every f ks d t (right (f k) (every f ks) ts) i
+at-every : (f : Kind → Bool) (ks : List Kind) (d : Kind) → f d ≡ true → every f ks ≡ true → (i : ℕ) → f (getD ks i d) ≡ true
+at-every f [] d e es i = e
+at-every f (k ∷ ks) d e es zero = and-true (f k) (every f ks) es .0
+at-every f (k ∷ ks) d e es (suc i) = at-every f ks d e (and-true (f k) (every f ks) es .1) i
 
-pub at-most : (f : Kind → ℕ) (n : ℕ) → T (leb (f (gate 0 false 0)) n) → T (every (λ k. leb (f k) n) kinds) → (kind : ℕ) → f (kindOf kind) ≤ n
+pub each-kind : (f : Kind → Bool) → f (gate 0 false 0) ≡ true → every f kinds ≡ true → (kind : ℕ) → f (kindOf kind) ≡ true
 unfolding kindOf
-at-most f n t ts kind = leb→le _ _ (at-every (λ k. leb (f k) n) kinds (gate 0 false 0) t ts kind)
+each-kind f e es kind = at-every f kinds (gate 0 false 0) e es kind
+
+at-most : (f : Kind → ℕ) (n : ℕ) → leb (f (gate 0 false 0)) n ≡ true → every (λ k. leb (f k) n) kinds ≡ true → (kind : ℕ) → f (kindOf kind) ≤ n
+at-most f n e es kind = leb-true (f (kindOf kind)) n (each-kind (λ k. leb (f k) n) e es kind)
 
 pub record Small (k : Kind) : Type 0 where
   pub digitals : k .digitals ≤ 4
@@ -76,10 +73,10 @@ pub small-kind : (kind : ℕ) → Small (kindOf kind)
 unfolding kinds scaled timed indexed chosen
 small-kind kind =
     record {
-      digitals = at-most (λ k. k .digitals) 4 tt tt kind;
-      analogs = at-most (λ k. k .analogs) 2 tt tt kind;
-      inputs = at-most (λ k. k .digitals + k .analogs) 4 tt tt kind;
-      parameters = at-most (λ k. length (k .parameters)) 4 tt tt kind;
-      times = at-most (λ k. k .times) 1 tt tt kind;
-      length-is = at-most contentLength 27 tt tt kind;
+      digitals = at-most (λ k. k .digitals) 4 refl refl kind;
+      analogs = at-most (λ k. k .analogs) 2 refl refl kind;
+      inputs = at-most (λ k. k .digitals + k .analogs) 4 refl refl kind;
+      parameters = at-most (λ k. length (k .parameters)) 4 refl refl kind;
+      times = at-most (λ k. k .times) 1 refl refl kind;
+      length-is = at-most contentLength 27 refl refl kind;
     }

@@ -5,7 +5,7 @@ use mathlib.Core.List.{List, [], _∷_}
 use lib.Dec.{leb, ltb}
 use lib.ListN.{length, getD}
 use lib.IntN.{ℤ, pos}
-use Rattle.words.specs.Signed.{minus, over, isWithin}
+use Rattle.words.specs.Signed.{minus, over, isWithin, Between}
 use Rattle.kinds.specs.Time.{longest}
 use Rattle.kinds.specs.declared.Ticks.{Ticks}
 
@@ -20,6 +20,9 @@ a to b = record { least = a; greatest = b }
 
 abbrev pub inRange : Range → ℤ → Bool
 inRange r x = isWithin x (r .least) (r .greatest)
+
+abbrev pub In : Range → ℤ → Type 0
+In r x = Between (r .least) (r .greatest) x
 
 -- what a block's output is: a bit, or a number
 pub data Sort : Type 0 where

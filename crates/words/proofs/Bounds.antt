@@ -76,7 +76,7 @@ quot-fits z k f =
 
 -- ---- what `within` says
 
-and-true : (a b : Bool) → a && b ≡ true → (a ≡ true) × (b ≡ true)
+pub and-true : (a b : Bool) → a && b ≡ true → (a ≡ true) × (b ≡ true)
 and-true true true e = (refl, refl)
 and-true true false e = (refl, e)
 and-true false b e = (e, absurd (let z : _≡_ {A = ℕ} 0 1 = cc in omega arith))
@@ -94,6 +94,9 @@ amount-between {x = negsuc n} e = let s = between-sides e in absurd (omega arith
 -- and back
 pub sides-between : {l g x : ℤ} → over l + under x ≤ over x + under l → over x + under g ≤ over g + under x → Between l g x
 sides-between {l} {g} {x} h k = record { between = simp (le-leZ l x h, le-leZ x g k) }
+
+pub count-between : {n m : ℕ} → n ≤ m → Between (pos 0) (pos m) (pos n)
+count-between h = sides-between (omega arith) (omega arith)
 
 -- at two literals: `between-abs m e (lit≤ tt) (lit≤ tt)`
 pub between-abs : {l g x : ℤ} (m : ℕ) → Between l g x → under l ≤ over l + m → over g ≤ under g + m → natAbs x ≤ m

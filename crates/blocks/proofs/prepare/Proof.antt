@@ -1,26 +1,32 @@
+-- `blocks::prepare` meets its contract: kind 16 has its Off worked out. Assumes nothing.
+use mathlib.Core.Path.{_≡_, _∙_, refl, sym, ap}
+use Rattle.kinds.proofs.Allowed.{param-in, base-in, time-in}
+use borrow.Author.Tests.{eq-eqb, ne-eqb}
+use native.Mathlib.Omega.{arith}
+use Rattle.kinds.specs.Kinds.{kindOf, kinds, scaled, parameter}
+use Rattle.blocks.specs.Blocks.{prepared}
 use borrow.Author.Needs.{needs}
 use Rattle.blocks.proofs.prepare.Statement.{statement}
 use Rattle.blocks.proofs.prepare.Tie as tie
-use Rattle.blocks.proofs.prepare.Reads as reads
-use Rattle.blocks.proofs.prepare.Lts as lts
-use Rattle.blocks.proofs.time_of.Reads as time-of-reads
-use Rattle.rules.proofs.with_off.Reads as with-off-reads
 
--- src/lib.rt:36:9
 time-of-requires : tie.Need-time-of-requires
 time-of-requires c κs = search needs
 
--- src/lib.rt:38:13
 with-off-requires : tie.Need-with-off-requires
-with-off-requires c κs = ?
+unfolding kindOf kinds scaled
+with-off-requires c κs =
+    let kind = c .before .before .args .kind in
+    let p = c .before .before .args .params in
+    let is = c .if1 .taken in
+    (rw is at (param-in kind p (c .before .before .pre .1) 2 (omega arith)), rw is at (param-in kind p (c .before .before .pre .1) 3 (omega arith)))
 
--- src/lib.rt:39:9
 returns : tie.Need-returns
-returns c = ?
+unfolding prepared
+returns c = rw (eq-eqb _ _ (c .before .if1 .taken), c .before .before .time-of .ensures, c .with-off .ensures)
 
--- src/lib.rt:32:1
 returns-2 : tie.Need-returns-2
-returns-2 c = ?
+unfolding prepared
+returns-2 c = rw (ne-eqb _ _ (c .if1 .left), c .before .time-of .ensures)
 
 pub prepare-spec : {M : Type 1} → statement M
 prepare-spec = tie.close (tie.spec time-of-requires with-off-requires returns returns-2)

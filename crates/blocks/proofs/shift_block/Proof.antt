@@ -1,49 +1,47 @@
+-- `blocks::shift_block` meets its contract: the configured bit is one of eight. Assumes nothing.
+use mathlib.Core.Path.{_≡_, _∙_, refl, sym, ap}
+use Rattle.words.proofs.Locals.{back, back-ok, back-to}
+use Prim.Native.Nat.{_≤_}
+use native.Mathlib.Omega.{arith}
+use Rattle.words.specs.Signed.{over}
+use Rattle.words.proofs.Bounds.{amount-between}
+use Rattle.kinds.specs.Kinds.{parameter}
 use borrow.Author.Needs.{needs}
 use Rattle.blocks.proofs.shift_block.Statement.{statement}
 use Rattle.blocks.proofs.shift_block.Tie as tie
-use Rattle.blocks.proofs.shift_block.Reads as reads
-use Rattle.blocks.proofs.shift_block.Lts as lts
-use Rattle.blocks.proofs.parameter_of.Reads as parameter-of-reads
-use Rattle.blocks.proofs.was_bit.Reads as was-bit-reads
-use Rattle.blocks.proofs.was_number.Reads as was-number-reads
-use Rattle.rules.proofs.shift_register.Reads as shift-register-reads
-use Rattle.words.proofs.amount_of.Reads as amount-of-reads
 
--- src/lib.rt:91:9
+amount : (c : tie.After-was-bit) → c .before .amount-of .result ≡ over (parameter (c .before .before .before .before .args .p .params) 1)
+amount c = c .before .amount-of .ensures .0 ∙ ap over (back-to _ (c .before .before .parameter-of .ok) (c .before .before .parameter-of .ensures))
+
 was-number-requires : tie.Need-was-number-requires
 was-number-requires c κs = search needs
 
--- src/lib.rt:92:30
 parameter-of-requires : tie.Need-parameter-of-requires
 parameter-of-requires c κs = search needs
 
--- src/lib.rt:92:9
 amount-of-requires : tie.Need-amount-of-requires
 amount-of-requires c κs = search needs
 
--- src/lib.rt:93:27
 array-read-shift-register : tie.Need-array-read-shift-register
 array-read-shift-register c = search needs
 
--- src/lib.rt:93:36
 array-read-shift-register-2 : tie.Need-array-read-shift-register-2
 array-read-shift-register-2 c = search needs
 
--- src/lib.rt:93:45
 array-read-shift-register-3 : tie.Need-array-read-shift-register-3
 array-read-shift-register-3 c = search needs
 
--- src/lib.rt:93:54
 was-bit-requires : tie.Need-was-bit-requires
 was-bit-requires c κs = search needs
 
--- src/lib.rt:93:5
 shift-register-requires : tie.Need-shift-register-requires
-shift-register-requires c κs = ?
+shift-register-requires c κs =
+    let j = amount c in
+    let h = amount-between (c .before .before .before .before .pre) in
+    (c .before .before .before .was-number .ensures .1, omega (arith, j, h), omega (arith, j, h))
 
--- src/lib.rt:87:1
 returns : tie.Need-returns
-returns c = ?
+returns c = c .shift-register .ensures ∙ rw (c .before .was-bit .ensures, c .before .before .before .before .was-number .ensures .0, amount (c .before))
 
 pub shift-block-spec : {M : Type 1} → statement M
 shift-block-spec =

@@ -1,0 +1,4 @@
+pub mod Ready
+pub mod Stays
+pub mod Prepares
+pub mod Cases

@@ -1,0 +1,40 @@
+-- Allowed parameters, made ready, are what the rules count on; and at most 35,994,000 ticks. Assumes nothing.
+use mathlib.Core.Path.{_≡_, refl, ap}
+use mathlib.Core.Bool.{Bool, true, false, cond}
+use mathlib.Core.List.{List, [], _∷_}
+use Prim.Native.Nat.{ℕ, zero, suc, _≤_, _<_}
+use native.Mathlib.Omega.{arith}
+use borrow.Author.Tests.{eqb-true}
+use lib.Dec.{eqb}
+use lib.IntN.{ℤ}
+use Rattle.kinds.specs.Kinds.{In, Range, kindOf, parameter, rangeAt, allowed}
+use Rattle.kinds.proofs.Allowed.{param-in, ticks-most}
+use Rattle.kinds.specs.declared.Ticks.{Ticks}
+use Rattle.rules.specs.Rules.{withOff}
+use Rattle.blocks.specs.declared.Prepared.{Prepared}
+use Rattle.blocks.specs.Blocks.{timeOf, prepared, Fit}
+
+-- Off aside, the parameters stay as they were
+same-param : (is : Bool) (p : List ℤ) (j : ℕ) → (is ≡ true → j < 3) → parameter (cond is (withOff p) p) j ≡ parameter p j
+same-param false p j h = refl
+same-param true p zero h = refl
+same-param true p (suc zero) h = refl
+same-param true p (suc (suc zero)) h = refl
+same-param true p (suc (suc (suc j))) h = let l = h refl in absurd (omega arith)
+
+module _ (kind : ℕ) (p : List ℤ) (a : allowed kind p ≡ true) where
+  time-most : (n : ℕ) → kindOf kind .times ≡ n → timeOf n p .0 ≤ 35994000
+  time-most zero e = omega arith
+  time-most (suc n) e = ticks-most kind p a (omega arith)
+
+  pub prepared-most : prepared kind p .time .0 ≤ 35994000
+  unfolding prepared
+  prepared-most = time-most (kindOf kind .times) refl
+
+  pub prepared-fit : Fit kind (prepared kind p)
+  unfolding prepared
+  prepared-fit =
+      record {
+        time-is = let h = time-most (kindOf kind .times) refl in omega arith;
+        params-are = λ j h k. rw (same-param (eqb kind 16) p j (λ e. k (eqb-true kind 16 e))) (param-in kind p a j h);
+      }

@@ -1,0 +1,315 @@
+-- What a rule gives is in the range that a sound record asks, over all kinds at once; and which words a kind leaves 0.
+-- A rule's own lemma speaks of its Q, its remembered bit and its number; one product has a line for each kind. Assumes nothing.
+use mathlib.Core.Path.{_≡_, refl}
+use mathlib.Core.Bool.{Bool, true, false, not, cond, _&&_, Bool·beq}
+use mathlib.Core.List.{List, [], _∷_}
+use Prim.Native.Nat.{ℕ, zero, suc, _+_, _*_, _≤_, _<_, min}
+use native.Mathlib.Omega.{arith}
+use lib.Dec.{ltb, eqb}
+use lib.ListN.{getD}
+use lib.IntN.{ℤ, pos, _-ℤ_}
+use Rattle.words.specs.Signed.{over, wordOf, Between}
+use Rattle.words.proofs.Bounds.{count-between, amount-between}
+use Rattle.words.proofs.Bits.{word-between}
+use Rattle.words.proofs.Ranges.{wider}
+use Rattle.kinds.specs.Kinds.{Kind, Sort, digital, analog, none, elapsed, upTo, In, sixteen, gate, delay, latching, shifting, trigger, choosing, kinds, kindOf, chosen, mostOf, parameter, sortRange, outputRange, rememberedRange}
+use Rattle.kinds.specs.declared.Ticks.{Ticks}
+use Rattle.rules.specs.declared.BlockWords.{BlockWords}
+use Rattle.rules.specs.Rules.{three, gives, shows, bit, allOf, someOf, andGate, andEdge, nandGate, nandEdge, orGate, norGate, xorGate, notGate, grown, fades, onDelay, offDelay, latchingRelay, digit, registerBit, stepped, shiftRegister, actualOf, triggersOn, thresholdTrigger, compared, multiplexed}
+use Rattle.rules.proofs.Register.{shifted-below}
+use Rattle.blocks.specs.declared.Prepared.{Prepared}
+use Rattle.blocks.specs.Blocks.{ticks, wasBit, wasOn, wasNumber, Rule, idle, rules, workedOut, Fit, Sound}
+
+-- ---- a line for each kind
+
+abbrev Each : (ℕ → Rule → Type 0) → List Rule → Type 0
+Each P [] = Unit {0}
+Each P (r ∷ rs) = P 0 r × Each (λ n. P (suc n)) rs
+
+at-each : (P : ℕ → Rule → Type 0) (rs : List Rule) → ((n : ℕ) → P n idle) → Each P rs → (kind : ℕ) → P kind (getD rs kind idle)
+at-each P [] d ps kind = d kind
+at-each P (r ∷ rs) d ps zero = ps .0
+at-each P (r ∷ rs) d ps (suc kind) = at-each (λ n. P (suc n)) rs (λ n. d (suc n)) (ps .1) kind
+
+-- ---- the words of a digital block
+
+zero-between : (n : ℕ) → Between (pos 0) (pos n) (pos 0)
+zero-between n = count-between (omega arith)
+
+bit-between : (b : Bool) {n : ℕ} → 1 ≤ n → Between (pos 0) (pos n) (wordOf b)
+bit-between true h = count-between h
+bit-between false h = count-between (omega arith)
+
+module _ (k : Kind) (t : Ticks) (is : k .output ≡ digital) where
+  digital-out : (q : Bool) → In (outputRange k) (wordOf q)
+  digital-out q = rw is (word-between q)
+
+  shows-sound : (q : Bool) → Sound k t (shows q)
+  shows-sound q = record { output-is = digital-out q; remembered-is = zero-between _; number-is = zero-between _ }
+
+  gives-sound : 1 ≤ k .remembered → (q b : Bool) (n : ℕ) → n ≤ mostOf (k .number) t → Sound k t (gives q b n)
+  gives-sound h q b n m = record { output-is = digital-out q; remembered-is = bit-between b h; number-is = count-between m }
+
+-- ---- the delays: Ta at most T
+
+module _ (n : ℕ) (t : Ticks) where
+  delay-gives : (q b : Bool) (ta : ℕ) → ta ≤ t .0 → Sound (delay n) t (gives q b ta)
+  delay-gives q b ta h = gives-sound (delay n) t refl (omega arith) q b ta h
+
+  on-sound : (trg was : Bool) (ta e : Ticks) → Sound (delay n) t (onDelay trg was ta t e)
+  unfolding onDelay
+  on-sound false was ta e = delay-gives false false 0 (omega arith)
+  on-sound true false ta e = delay-gives (eqb 0 (t .0)) true 0 (omega arith)
+  on-sound true true ta e = delay-gives (eqb (grown ta t e) (t .0)) true (grown ta t e) (omega arith)
+
+  fades-sound : (ends : Bool) (ta : ℕ) → ta ≤ t .0 → Sound (delay n) t (cond ends (gives false false 0) (gives true false ta))
+  fades-sound true ta h = delay-gives false false 0 (omega arith)
+  fades-sound false ta h = delay-gives true false ta h
+
+  off-sound : (r trg was q : Bool) (ta e : Ticks) → ta .0 ≤ t .0 → Sound (delay n) t (offDelay r trg was q ta t e)
+  unfolding offDelay
+  off-sound true trg was q ta e h = delay-gives false trg 0 (omega arith)
+  off-sound false true was q ta e h = delay-gives true true 0 (omega arith)
+  off-sound false false true q ta e h = delay-gives (q && ltb 0 (t .0)) false 0 (omega arith)
+  off-sound false false false true ta e h = fades-sound (eqb (grown ta t e) (t .0)) (grown ta t e) (omega arith)
+  off-sound false false false false ta e h = delay-gives false false (ta .0) h
+
+-- ---- the memories: a bit, a register of 8 bits
+
+relay-sound : (t : Ticks) (r s q : Bool) → Sound latching t (latchingRelay r s q)
+unfolding latchingRelay
+relay-sound t true s q = shows-sound latching t refl false
+relay-sound t false true q = shows-sound latching t refl true
+relay-sound t false false q = shows-sound latching t refl q
+
+stepped-most : (rises down x : Bool) (r : ℕ) → r ≤ 255 → stepped rises down x r ≤ 255
+stepped-most true down x r h = omega (arith, shifted-below down x r (omega arith))
+stepped-most false down x r h = h
+
+shift-sound : (t : Ticks) (x trg down was : Bool) (r j : ℕ) → r ≤ 255 → Sound shifting t (shiftRegister x trg down was r j)
+unfolding shiftRegister
+shift-sound t x trg down was r j h =
+    let next = stepped (trg && not was) down x r in
+    gives-sound shifting t refl (omega arith) (registerBit next j) trg next (stepped-most (trg && not was) down x r h)
+
+-- ---- the thresholds: a bit
+
+threshold-sound : (t : Ticks) (ax : ℤ) (p : List ℤ) (q : Bool) → Sound (trigger 1) t (thresholdTrigger ax p q)
+unfolding thresholdTrigger
+threshold-sound t ax p q =
+    shows-sound (trigger 1) t refl
+    (triggersOn (actualOf ax (parameter p 0) (parameter p 1)) (parameter p 2) (parameter p 3) q)
+
+compare-sound : (t : Ticks) (ax ay : ℤ) (p : List ℤ) (q : Bool) → Sound (trigger 2) t (compared ax ay p q)
+unfolding compared
+compare-sound t ax ay p q =
+    shows-sound (trigger 2) t refl
+    (triggersOn (actualOf ax (parameter p 0) (parameter p 1) -ℤ actualOf ay (parameter p 0) (parameter p 1)) (parameter p 2) (parameter p 3) q)
+
+-- ---- the multiplexer: its values have 16 bits
+
+chosen-in : (p : Prepared) → Fit 15 p → (en s1 s2 : Bool) → In sixteen (cond en (parameter (p .params) (2 * digit s1 + digit s2)) (pos 0))
+unfolding kindOf kinds chosen
+chosen-in p f false s1 s2 = record { between = refl }
+chosen-in p f true false false = f .params-are 0 (omega arith) (λ e. omega arith)
+chosen-in p f true false true = f .params-are 1 (omega arith) (λ e. omega arith)
+chosen-in p f true true false = f .params-are 2 (omega arith) (λ e. omega arith)
+chosen-in p f true true true = f .params-are 3 (omega arith) (λ e. absurd (omega arith))
+
+choice-sound : (p : Prepared) → Fit 15 p → (t : Ticks) (en s1 s2 : Bool) → Sound choosing t (multiplexed en s1 s2 (p .params))
+unfolding multiplexed
+choice-sound p f t en s1 s2 =
+    record { output-is = chosen-in p f en s1 s2; remembered-is = zero-between _; number-is = zero-between _ }
+
+-- ---- all kinds
+
+abbrev pub Keeps : ℕ → Rule → Type 0
+Keeps kind r =
+    (b : List Bool) (a : List ℤ) (p : Prepared) (was : BlockWords) (e : Ticks) → Fit kind p → Sound (kindOf kind) (p .time) was → Sound (kindOf kind) (p .time) (r b a p was e)
+
+idle-sound : (k : Kind) (t : Ticks) → Sound k t (three (pos 0) (pos 0) (pos 0))
+idle-sound k t = record { output-is = out (k .output); remembered-is = zero-between _; number-is = zero-between _ }
+  where
+    out : (s : Sort) → In (sortRange s) (pos 0)
+    out digital = record { between = refl }
+    out analog = record { between = refl }
+
+each-keeps : Each Keeps rules
+unfolding rules kindOf kinds andGate andEdge nandGate nandEdge orGate norGate xorGate notGate
+each-keeps = (
+  λ b a p was e f s. idle-sound _ _,
+  (
+    λ b a p was e f s. shows-sound _ _ refl (allOf b),
+    (
+      λ b a p was e f s. gives-sound _ _ refl (omega arith) (allOf b && not (wasBit was)) (allOf b) 0 (omega arith),
+      (
+        λ b a p was e f s. shows-sound _ _ refl (not (allOf b)),
+        (
+          λ b a p was e f s. gives-sound _ _ refl (omega arith) (not (allOf b) && wasBit was) (allOf b) 0 (omega arith),
+          (
+            λ b a p was e f s. shows-sound _ _ refl (someOf b),
+            (
+              λ b a p was e f s. shows-sound _ _ refl (not (someOf b)),
+              (
+                λ b a p was e f s. shows-sound _ _ refl (not (Bool·beq (bit b 0) (bit b 1))),
+                (
+                  λ b a p was e f s. shows-sound _ _ refl (not (bit b 0)),
+                  (
+                    λ b a p was e f s. on-sound 1 (p .time) (bit b 0) (wasBit was) (ticks (wasNumber was)) e,
+                    (
+                      λ b a p was e f s. off-sound 2 (p .time) (bit b 1) (bit b 0) (wasBit was) (wasOn was) (ticks (wasNumber was)) e (amount-between (s .number-is) .1),
+                      (
+                        λ b a p was e f s. relay-sound (p .time) (bit b 1) (bit b 0) (wasOn was),
+                        (
+                          λ b a p was e f s. shift-sound (p .time) (bit b 0) (bit b 1) (bit b 2) (wasBit was) (wasNumber was) _ (amount-between (s .number-is) .1),
+                          (
+                            λ b a p was e f s. threshold-sound (p .time) (parameter a 0) (p .params) (wasOn was),
+                            (
+                              λ b a p was e f s. compare-sound (p .time) (parameter a 0) (parameter a 1) (p .params) (wasOn was),
+                              (
+                                λ b a p was e f s. choice-sound p f (p .time) (bit b 0) (bit b 1) (bit b 2),
+                                (
+                                  λ b a p was e f s. threshold-sound (p .time) (parameter a 0) (p .params) (wasOn was),
+                                  tt,
+                                ),
+                              ),
+                            ),
+                          ),
+                        ),
+                      ),
+                    ),
+                  ),
+                ),
+              ),
+            ),
+          ),
+        ),
+      ),
+    ),
+  ),
+)
+
+-- a block's words stay in the ranges that a sound record asks
+pub stays-sound : (kind : ℕ) → Keeps kind (workedOut kind)
+unfolding workedOut
+stays-sound kind = at-each Keeps rules (λ n b a p was e f s. idle-sound (kindOf n) (p .time)) each-keeps kind
+
+-- ---- "block words that the block's kind has no use for 0", whatever stood there
+
+-- the remembered word is in its range, which is 0 alone where the kind remembers nothing; the number is 0 where the kind has none
+pub record Leaves (k : Kind) (w : BlockWords) : Type 0 where
+  pub remembered-is : In (rememberedRange k) (w .remembered)
+  pub number-is : k .number ≡ none → w .number ≡ pos 0
+
+leaves-zero : (k : Kind) (o : ℤ) → Leaves k (three o (pos 0) (pos 0))
+leaves-zero k o = record { remembered-is = zero-between _; number-is = λ e. refl }
+
+leaves-bit : (k : Kind) → 1 ≤ k .remembered → (q b : Bool) → Leaves k (gives q b 0)
+leaves-bit k h q b = record { remembered-is = bit-between b h; number-is = λ e. refl }
+
+-- a kind that has a number
+leaves-number : (k : Kind) → 1 ≤ k .remembered → (k .number ≡ none → ⊥) → (q b : Bool) (n : ℕ) → Leaves k (gives q b n)
+leaves-number k h has q b n = record { remembered-is = bit-between b h; number-is = λ e. absurd (has e) }
+
+elapsed-is : elapsed ≡ none → ⊥
+elapsed-is e = let z : _≡_ {A = ℕ} 0 1 = cc in omega arith
+
+upTo-is : (n : ℕ) → upTo n ≡ none → ⊥
+upTo-is n e = let z : _≡_ {A = ℕ} 0 1 = cc in omega arith
+
+module _ (n : ℕ) where
+  delay-leaves : (q b : Bool) (ta : ℕ) → Leaves (delay n) (gives q b ta)
+  delay-leaves q b ta = leaves-number (delay n) (omega arith) elapsed-is q b ta
+
+  on-leaves : (trg was : Bool) (ta t e : Ticks) → Leaves (delay n) (onDelay trg was ta t e)
+  unfolding onDelay
+  on-leaves false was ta t e = delay-leaves false false 0
+  on-leaves true false ta t e = delay-leaves (eqb 0 (t .0)) true 0
+  on-leaves true true ta t e = delay-leaves (eqb (grown ta t e) (t .0)) true (grown ta t e)
+
+  fades-leaves : (ends : Bool) (ta : ℕ) → Leaves (delay n) (cond ends (gives false false 0) (gives true false ta))
+  fades-leaves true ta = delay-leaves false false 0
+  fades-leaves false ta = delay-leaves true false ta
+
+  off-leaves : (r trg was q : Bool) (ta t e : Ticks) → Leaves (delay n) (offDelay r trg was q ta t e)
+  unfolding offDelay
+  off-leaves true trg was q ta t e = delay-leaves false trg 0
+  off-leaves false true was q ta t e = delay-leaves true true 0
+  off-leaves false false true q ta t e = delay-leaves (q && ltb 0 (t .0)) false 0
+  off-leaves false false false true ta t e = fades-leaves (eqb (grown ta t e) (t .0)) (grown ta t e)
+  off-leaves false false false false ta t e = delay-leaves false false (ta .0)
+
+relay-leaves : (r s q : Bool) → Leaves latching (latchingRelay r s q)
+unfolding latchingRelay
+relay-leaves true s q = leaves-zero latching (pos 0)
+relay-leaves false true q = leaves-zero latching (pos 1)
+relay-leaves false false q = leaves-zero latching (wordOf q)
+
+shift-leaves : (x trg down was : Bool) (r j : ℕ) → Leaves shifting (shiftRegister x trg down was r j)
+unfolding shiftRegister
+shift-leaves x trg down was r j =
+    let next = stepped (trg && not was) down x r in
+    leaves-number shifting (omega arith) (upTo-is 255) (registerBit next j) trg next
+
+abbrev pub Uses : ℕ → Rule → Type 0
+Uses kind r = (b : List Bool) (a : List ℤ) (p : Prepared) (was : BlockWords) (e : Ticks) → Leaves (kindOf kind) (r b a p was e)
+
+each-uses : Each Uses rules
+unfolding rules kindOf kinds andGate andEdge nandGate nandEdge orGate norGate xorGate notGate thresholdTrigger compared multiplexed
+each-uses = (
+  λ b a p was e. leaves-zero _ _,
+  (
+    λ b a p was e. leaves-zero _ _,
+    (
+      λ b a p was e. leaves-bit _ (omega arith) (allOf b && not (wasBit was)) (allOf b),
+      (
+        λ b a p was e. leaves-zero _ _,
+        (
+          λ b a p was e. leaves-bit _ (omega arith) (not (allOf b) && wasBit was) (allOf b),
+          (
+            λ b a p was e. leaves-zero _ _,
+            (
+              λ b a p was e. leaves-zero _ _,
+              (
+                λ b a p was e. leaves-zero _ _,
+                (
+                  λ b a p was e. leaves-zero _ _,
+                  (
+                    λ b a p was e. on-leaves 1 (bit b 0) (wasBit was) (ticks (wasNumber was)) (p .time) e,
+                    (
+                      λ b a p was e. off-leaves 2 (bit b 1) (bit b 0) (wasBit was) (wasOn was) (ticks (wasNumber was)) (p .time) e,
+                      (
+                        λ b a p was e. relay-leaves (bit b 1) (bit b 0) (wasOn was),
+                        (
+                          λ b a p was e. shift-leaves (bit b 0) (bit b 1) (bit b 2) (wasBit was) (wasNumber was) _,
+                          (
+                            λ b a p was e. leaves-zero _ _,
+                            (
+                              λ b a p was e. leaves-zero _ _,
+                              (
+                                λ b a p was e. leaves-zero _ _,
+                                (
+                                  λ b a p was e. leaves-zero _ _,
+                                  tt,
+                                ),
+                              ),
+                            ),
+                          ),
+                        ),
+                      ),
+                    ),
+                  ),
+                ),
+              ),
+            ),
+          ),
+        ),
+      ),
+    ),
+  ),
+)
+
+-- the words that a kind has no use for become 0
+pub leaves : (kind : ℕ) → Uses kind (workedOut kind)
+unfolding workedOut
+leaves kind = at-each Uses rules (λ n b a p was e. leaves-zero (kindOf n) (pos 0)) each-uses kind
