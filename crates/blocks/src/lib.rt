@@ -35,7 +35,7 @@ pub fn prepare(kinds: &[[i32; 18]; 17], kind: usize, params: [i32; 4]) -> Prepar
 {
     let time = time_of(kinds, kind, params);
     if kind == 16 {
-        let params = rules::with_off(params);
+        let params = thresholds::with_off(params);
         return Prepared { time, params };
     }
     Prepared { time, params }
@@ -104,7 +104,7 @@ fn trigger_block(analog: [i32; 2], p: Prepared, was: BlockWords) -> BlockWords
     ensures { λ r. ⌜ r ≡ thresholdTrigger (parameter analog 0) (p .params) (wasOn was) ⌝ }
 {
     let params = p.params;
-    rules::threshold_trigger(analog[0], params, was_on(was))
+    thresholds::threshold_trigger(analog[0], params, was_on(was))
 }
 
 fn compare_block(analog: [i32; 2], p: Prepared, was: BlockWords) -> BlockWords
@@ -112,7 +112,7 @@ fn compare_block(analog: [i32; 2], p: Prepared, was: BlockWords) -> BlockWords
     ensures { λ r. ⌜ r ≡ compared (parameter analog 0) (parameter analog 1) (p .params) (wasOn was) ⌝ }
 {
     let params = p.params;
-    rules::comparator(analog[0], analog[1], params, was_on(was))
+    thresholds::comparator(analog[0], analog[1], params, was_on(was))
 }
 
 fn choice_block(bits: [bool; 4], p: Prepared) -> BlockWords
@@ -126,11 +126,7 @@ fn choice_block(bits: [bool; 4], p: Prepared) -> BlockWords
 fn nothing() -> BlockWords
     ensures { λ r. ⌜ r ≡ three (pos 0) (pos 0) (pos 0) ⌝ }
 {
-    BlockWords {
-        output: 0,
-        remembered: 0,
-        number: 0,
-    }
+    rules::three_of(0, 0, 0)
 }
 
 // What a block's three words become.

@@ -1,10 +1,7 @@
-// What a block's output and memory become, on plain values.
+// What a block's output and memory become, on plain values: the words of kinds 1 to 12, and of kind 15.
 ghost use mathlib.Core.Path.{_≡_};
 ghost use Prim.Native.Nat.{_≤_, _<_, _^_};
-ghost use lib.IntN.{pos, _-ℤ_};
-ghost use Rattle.words.specs.Signed.{Between, minus};
-ghost use Rattle.kinds.specs.Kinds.{parameter};
-ghost use Rattle.rules.specs.Rules.{three, gives, shows, bit, allOf, someOf, andGate, andEdge, nandGate, nandEdge, orGate, norGate, xorGate, notGate, grown, fades, onDelay, offDelay, latchingRelay, digit, shifted, stepped, registerBit, shiftRegister, actualOf, triggersOn, triggered, Scaled, thresholdTrigger, compared, multiplexed, withOff};
+ghost use Rattle.rules.specs.Rules.{three, gives, shows, allOf, someOf, andGate, andEdge, nandGate, nandEdge, orGate, norGate, xorGate, notGate, grown, fades, onDelay, offDelay, latchingRelay, digit, shifted, stepped, shiftRegister, multiplexed};
 use kinds::Ticks;
 
 // A block's three words.
@@ -15,7 +12,7 @@ pub struct BlockWords {
 }
 
 // The one place where three words are put together.
-fn three_of(output: i32, remembered: i32, number: i32) -> BlockWords
+pub fn three_of(output: i32, remembered: i32, number: i32) -> BlockWords
     ensures { λ r. ⌜ r ≡ three output remembered number ⌝ }
 {
     BlockWords {
@@ -26,7 +23,7 @@ fn three_of(output: i32, remembered: i32, number: i32) -> BlockWords
 }
 
 // The words of a digital block.
-fn given(q: bool, bit: bool, number: u32) -> BlockWords
+pub fn given(q: bool, bit: bool, number: u32) -> BlockWords
     requires { ⌜ number < 2 ^ 31 ⌝ }
     ensures { λ r. ⌜ r ≡ gives q bit number ⌝ }
 {
@@ -38,7 +35,7 @@ fn given(q: bool, bit: bool, number: u32) -> BlockWords
 }
 
 // The words of a digital block that has no memory.
-fn shown(q: bool) -> BlockWords
+pub fn shown(q: bool) -> BlockWords
     ensures { λ r. ⌜ r ≡ shows q ⌝ }
 {
     given(q, false, 0)
@@ -246,57 +243,6 @@ pub fn shift_register(
     given((next >> place) % 2 == 1, trg, next)
 }
 
-// ---- thresholds
-
-// The actual value of an analog input.
-pub fn actual(input: i32, gain: i32, offset: i32) -> i32
-    requires { ⌜ Scaled input gain offset ⌝ }
-    ensures { λ r. ⌜ (r ≡ actualOf input gain offset) × Between (minus 337680) (pos 337680) r ⌝ }
-{
-    input * gain / 100 + offset
-}
-
-// Whether a value triggers.
-pub fn triggers(value: i32, on: i32, off: i32, q: bool) -> bool
-    ensures { λ r. ⌜ r ≡ triggersOn value on off q ⌝ }
-{
-    if off <= on {
-        if on < value {
-            return true;
-        }
-        if value <= off {
-            return false;
-        }
-        return q;
-    }
-    (on <= value) & (value < off)
-}
-
-// The words of a block that triggers on a value.
-fn triggered_by(value: i32, params: [i32; 4], q: bool) -> BlockWords
-    ensures { λ r. ⌜ r ≡ triggered value params q ⌝ }
-{
-    shown(triggers(value, params[2], params[3], q))
-}
-
-// Kind 13, and kind 16 with its Off worked out.
-pub fn threshold_trigger(ax: i32, params: [i32; 4], q: bool) -> BlockWords
-    requires { ⌜ Scaled ax (parameter params 0) (parameter params 1) ⌝ }
-    ensures { λ r. ⌜ r ≡ thresholdTrigger ax params q ⌝ }
-{
-    triggered_by(actual(ax, params[0], params[1]), params, q)
-}
-
-// Kind 14.
-pub fn comparator(ax: i32, ay: i32, params: [i32; 4], q: bool) -> BlockWords
-    requires { ⌜ Scaled ax (parameter params 0) (parameter params 1) × Scaled ay (parameter params 0) (parameter params 1) ⌝ }
-    ensures { λ r. ⌜ r ≡ compared ax ay params q ⌝ }
-{
-    let x = actual(ax, params[0], params[1]);
-    let y = actual(ay, params[0], params[1]);
-    triggered_by(x - y, params, q)
-}
-
 // Kind 15.
 pub fn multiplexer(en: bool, s1: bool, s2: bool, params: [i32; 4]) -> BlockWords
     ensures { λ r. ⌜ r ≡ multiplexed en s1 s2 params ⌝ }
@@ -306,12 +252,4 @@ pub fn multiplexer(en: bool, s1: bool, s2: bool, params: [i32; 4]) -> BlockWords
     }
     let place = (2 * digit_of(s1) + digit_of(s2)) as usize;
     three_of(params[place], 0, 0)
-}
-
-// Kind 16: its parameters as kind 13 takes them.
-pub fn with_off(params: [i32; 4]) -> [i32; 4]
-    requires { ⌜ Between (minus 20000) (pos 20000) (parameter params 2) × Between (minus 20000) (pos 20000) (parameter params 3) ⌝ }
-    ensures { λ r. ⌜ r ≡ withOff params ⌝ }
-{
-    [params[0], params[1], params[2], params[2] + params[3]]
 }

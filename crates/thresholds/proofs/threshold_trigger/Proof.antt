@@ -1,11 +1,11 @@
--- `rules::threshold_trigger` meets its contract. Assumes nothing.
+-- `thresholds::threshold_trigger` meets its contract. Assumes nothing.
 use mathlib.Core.Path.{_≡_, _∙_, refl, sym, ap}
 use Rattle.words.proofs.Locals.{back, back-ok}
 use Rattle.kinds.specs.Kinds.{parameter}
 use Rattle.rules.specs.Rules.{thresholdTrigger}
 use borrow.Author.Needs.{needs}
-use Rattle.rules.proofs.threshold_trigger.Statement.{statement}
-use Rattle.rules.proofs.threshold_trigger.Tie as tie
+use Rattle.thresholds.proofs.threshold_trigger.Statement.{statement}
+use Rattle.thresholds.proofs.threshold_trigger.Tie as tie
 
 array-copy-out-actual : tie.Need-array-copy-out-actual
 array-copy-out-actual c = search needs

@@ -1,8 +1,8 @@
--- `rules::triggers` meets its contract: each test reads the numbers back from their bits. Assumes nothing.
+-- `thresholds::triggers` meets its contract: each test reads the numbers back from their bits. Assumes nothing.
 use Rattle.words.proofs.Locals.{back, le-back, lt-back}
 use Rattle.rules.specs.Rules.{triggersOn}
-use Rattle.rules.proofs.triggers.Statement.{statement}
-use Rattle.rules.proofs.triggers.Tie as tie
+use Rattle.thresholds.proofs.triggers.Statement.{statement}
+use Rattle.thresholds.proofs.triggers.Tie as tie
 
 returns : tie.Need-returns
 unfolding triggersOn

@@ -1,12 +1,12 @@
--- `rules::comparator` meets its contract: the difference of two actual values fits. Assumes nothing.
+-- `thresholds::comparator` meets its contract: the difference of two actual values fits. Assumes nothing.
 use mathlib.Core.Path.{_≡_, _∙_, refl, sym, ap}
 use Rattle.words.proofs.Locals.{back, back-ok}
 use Rattle.kinds.specs.Kinds.{parameter}
 use Rattle.words.proofs.Ranges.{whole}
 use Rattle.rules.specs.Rules.{compared}
 use borrow.Author.Needs.{needs}
-use Rattle.rules.proofs.comparator.Statement.{statement}
-use Rattle.rules.proofs.comparator.Tie as tie
+use Rattle.thresholds.proofs.comparator.Statement.{statement}
+use Rattle.thresholds.proofs.comparator.Tie as tie
 
 array-copy-out-actual : tie.Need-array-copy-out-actual
 array-copy-out-actual c = search needs

@@ -1,10 +1,10 @@
--- `rules::triggered_by` meets its contract. Assumes nothing.
+-- `thresholds::triggered_by` meets its contract. Assumes nothing.
 use mathlib.Core.Path.{_≡_, _∙_, refl, sym, ap}
 use Rattle.words.proofs.Locals.{back, back-ok}
 use Rattle.kinds.specs.Kinds.{parameter}
 use borrow.Author.Needs.{needs}
-use Rattle.rules.proofs.triggered_by.Statement.{statement}
-use Rattle.rules.proofs.triggered_by.Tie as tie
+use Rattle.thresholds.proofs.triggered_by.Statement.{statement}
+use Rattle.thresholds.proofs.triggered_by.Tie as tie
 
 array-copy-out-triggers : tie.Need-array-copy-out-triggers
 array-copy-out-triggers c = search needs

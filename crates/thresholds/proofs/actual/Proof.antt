@@ -1,10 +1,10 @@
--- `rules::actual` meets its contract: each step fits 32 bits. Assumes nothing.
+-- `thresholds::actual` meets its contract: each step fits 32 bits. Assumes nothing.
 use Rattle.words.proofs.Ranges.{whole, ranged}
-use Rattle.rules.proofs.Scale.{quotient-range, actual-range}
+use Rattle.thresholds.proofs.Scale.{quotient-range, actual-range}
 use Rattle.rules.specs.Rules.{actualOf}
 use borrow.Author.Needs.{needs}
-use Rattle.rules.proofs.actual.Statement.{statement}
-use Rattle.rules.proofs.actual.Tie as tie
+use Rattle.thresholds.proofs.actual.Statement.{statement}
+use Rattle.thresholds.proofs.actual.Tie as tie
 
 mul-result : tie.Need-mul-result
 mul-result c = search (needs, whole)

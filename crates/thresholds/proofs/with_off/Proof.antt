@@ -1,11 +1,11 @@
--- `rules::with_off` meets its contract: On and Δ leave room for their sum. Assumes nothing.
+-- `thresholds::with_off` meets its contract: On and Δ leave room for their sum. Assumes nothing.
 use mathlib.Core.Path.{_≡_, _∙_, refl, sym, ap}
 use Rattle.words.proofs.Locals.{back, back-ok}
 use Rattle.kinds.specs.Kinds.{parameter}
 use Rattle.words.proofs.Ranges.{whole}
 use borrow.Author.Needs.{needs}
-use Rattle.rules.proofs.with_off.Statement.{statement}
-use Rattle.rules.proofs.with_off.Tie as tie
+use Rattle.thresholds.proofs.with_off.Statement.{statement}
+use Rattle.thresholds.proofs.with_off.Tie as tie
 
 array-copy-out-t5 : tie.Need-array-copy-out-t5
 array-copy-out-t5 c = search needs

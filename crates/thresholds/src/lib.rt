@@ -1,0 +1,64 @@
+// What a block that triggers on an analog value becomes: kinds 13, 14 and 16.
+ghost use mathlib.Core.Path.{_≡_};
+ghost use lib.IntN.{pos};
+ghost use Rattle.words.specs.Signed.{Between, minus};
+ghost use Rattle.kinds.specs.Kinds.{parameter};
+ghost use Rattle.rules.specs.Rules.{actualOf, triggersOn, triggered, Scaled, thresholdTrigger, compared, withOff};
+use rules::BlockWords;
+
+// The actual value of an analog input.
+pub fn actual(input: i32, gain: i32, offset: i32) -> i32
+    requires { ⌜ Scaled input gain offset ⌝ }
+    ensures { λ r. ⌜ (r ≡ actualOf input gain offset) × Between (minus 337680) (pos 337680) r ⌝ }
+{
+    input * gain / 100 + offset
+}
+
+// Whether a value triggers.
+pub fn triggers(value: i32, on: i32, off: i32, q: bool) -> bool
+    ensures { λ r. ⌜ r ≡ triggersOn value on off q ⌝ }
+{
+    if off <= on {
+        if on < value {
+            return true;
+        }
+        if value <= off {
+            return false;
+        }
+        return q;
+    }
+    (on <= value) & (value < off)
+}
+
+// The words of a block that triggers on a value.
+fn triggered_by(value: i32, params: [i32; 4], q: bool) -> BlockWords
+    ensures { λ r. ⌜ r ≡ triggered value params q ⌝ }
+{
+    rules::shown(triggers(value, params[2], params[3], q))
+}
+
+// Kind 13, and kind 16 with its Off worked out.
+pub fn threshold_trigger(ax: i32, params: [i32; 4], q: bool) -> BlockWords
+    requires { ⌜ Scaled ax (parameter params 0) (parameter params 1) ⌝ }
+    ensures { λ r. ⌜ r ≡ thresholdTrigger ax params q ⌝ }
+{
+    triggered_by(actual(ax, params[0], params[1]), params, q)
+}
+
+// Kind 14.
+pub fn comparator(ax: i32, ay: i32, params: [i32; 4], q: bool) -> BlockWords
+    requires { ⌜ Scaled ax (parameter params 0) (parameter params 1) × Scaled ay (parameter params 0) (parameter params 1) ⌝ }
+    ensures { λ r. ⌜ r ≡ compared ax ay params q ⌝ }
+{
+    let x = actual(ax, params[0], params[1]);
+    let y = actual(ay, params[0], params[1]);
+    triggered_by(x - y, params, q)
+}
+
+// Kind 16: its parameters as kind 13 takes them.
+pub fn with_off(params: [i32; 4]) -> [i32; 4]
+    requires { ⌜ Between (minus 20000) (pos 20000) (parameter params 2) × Between (minus 20000) (pos 20000) (parameter params 3) ⌝ }
+    ensures { λ r. ⌜ r ≡ withOff params ⌝ }
+{
+    [params[0], params[1], params[2], params[2] + params[3]]
+}
