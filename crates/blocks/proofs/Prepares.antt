@@ -7,12 +7,14 @@ use native.Mathlib.Omega.{arith}
 use borrow.Author.Tests.{eqb-true}
 use lib.Dec.{eqb}
 use lib.IntN.{ℤ}
-use Rattle.kinds.specs.Kinds.{In, Range, kindOf, parameter, rangeAt, allowed}
+use Rattle.kinds.specs.Kinds.{kinds, kindOf, parameter, allowed}
+use Rattle.kinds.specs.Time.{settingOf, ticksOf}
 use Rattle.kinds.proofs.Allowed.{param-in, ticks-most}
 use Rattle.kinds.specs.declared.Ticks.{Ticks}
-use Rattle.rules.specs.Rules.{withOff}
+use Rattle.rules.specs.declared.BlockWords.{BlockWords}
+use Rattle.rules.specs.Rules.{bit, onDelay, offDelay, withOff, differentialTrigger}
 use Rattle.blocks.specs.declared.Prepared.{Prepared}
-use Rattle.blocks.specs.Blocks.{timeOf, prepared, Fit}
+use Rattle.blocks.specs.Blocks.{ticks, wasBit, wasOn, wasNumber, timeOf, prepared, rules, workedOut, Fit}
 
 -- Off aside, the parameters stay as they were
 same-param : (is : Bool) (p : List ℤ) (j : ℕ) → (is ≡ true → j < 3) → parameter (cond is (withOff p) p) j ≡ parameter p j
@@ -38,3 +40,18 @@ module _ (kind : ℕ) (p : List ℤ) (a : allowed kind p ≡ true) where
         time-is = let h = time-most (kindOf kind .times) refl in omega arith;
         params-are = λ j h k. rw (same-param (eqb kind 16) p j (λ e. k (eqb-true kind 16 e))) (param-in kind p a j h);
       }
+
+-- ---- on the parameters as the circuit has them, the dispatch is the rule of the kind
+
+module _ (b : List Bool) (a p : List ℤ) (was : BlockWords) (e : Ticks) where
+  pub on-delay-is : workedOut 9 b a (prepared 9 p) was e ≡ onDelay (bit b 0) (wasBit was) (ticks (wasNumber was)) (ticksOf (settingOf (parameter p 0) (parameter p 1))) e
+  unfolding workedOut rules prepared kindOf kinds
+  on-delay-is = refl
+
+  pub off-delay-is : workedOut 10 b a (prepared 10 p) was e ≡ offDelay (bit b 1) (bit b 0) (wasBit was) (wasOn was) (ticks (wasNumber was)) (ticksOf (settingOf (parameter p 0) (parameter p 1))) e
+  unfolding workedOut rules prepared kindOf kinds
+  off-delay-is = refl
+
+  pub differential-is : workedOut 16 b a (prepared 16 p) was e ≡ differentialTrigger (parameter a 0) p (wasOn was)
+  unfolding workedOut rules prepared differentialTrigger
+  differential-is = refl

@@ -5,7 +5,7 @@ ghost use lib.ListN.{length};
 ghost use lib.IntN.{pos};
 ghost use Rattle.words.specs.Signed.{Between, over, bitOf};
 ghost use Rattle.kinds.specs.Time.{longest, settingOf, ticksOf};
-ghost use Rattle.kinds.specs.Kinds.{kindOf, isAnalog, contentLength, inRange, rangeAt, settingFits, settingsFit, rangesFit, allowed, outputRange, rememberedRange, mostOf, numberRange};
+ghost use Rattle.kinds.specs.Kinds.{known, kindOf, isAnalog, contentLength, inRange, rangeAt, settingFits, settingsFit, rangesFit, allowed, outputRange, rememberedRange, mostOf, numberRange};
 ghost use Rattle.kinds.specs.Table.{kindsTable, cell, Lent};
 
 // A number in its timebase: the base (0 seconds, 1 minutes, 2 hours), and the number.
@@ -122,6 +122,13 @@ fn flag(kinds: &[[i32; 18]; 17], kind: usize, column: usize) -> bool
     ensures { λ r. ⌜ r ≡ bitOf (cell kind column) ⌝ }
 {
     words::bit_of(entry(kinds, kind, column))
+}
+
+// Whether there is such a kind.
+pub fn is_known(kind: usize) -> bool
+    ensures { λ r. ⌜ r ≡ known kind ⌝ }
+{
+    (1 <= kind) & (kind < 17)
 }
 
 // How many digital inputs a block of a kind has.

@@ -117,17 +117,17 @@ registerBit r j = eqb (r / 2 ^ (j - 1) % 2) 1
 
 -- "Dir 0 moves bit 1 to bit 2 and so on, In enters bit 1; Dir 1 moves down, In enters bit 8."
 abbrev pub shifted : Bool → Bool → ℕ → ℕ
-shifted false x r = (2 * r + digit x) % 256
-shifted true x r = r / 2 + 128 * digit x
+shifted false input r = (2 * r + digit input) % 256
+shifted true input r = r / 2 + 128 * digit input
 
 -- "On a rising Trg"
 abbrev pub stepped : Bool → Bool → Bool → ℕ → ℕ
-stepped rises down x r = cond rises (shifted down x r) r
+stepped rises down input r = cond rises (shifted down input r) r
 
 -- 12 shift register, on In, Trg, Dir: "that bit after the step"
 unfoldable pub shiftRegister : Bool → Bool → Bool → Bool → ℕ → ℕ → BlockWords
-shiftRegister x trg down was r j =
-    let next = stepped (trg && not was) down x r in
+shiftRegister input trg down was r j =
+    let next = stepped (trg && not was) down input r in
     gives (registerBit next j) trg next
 
 -- ---- thresholds: the parameters are A, B, On, Off
@@ -165,6 +165,10 @@ compared ax ay p q =
 unfoldable pub multiplexed : Bool → Bool → Bool → List ℤ → BlockWords
 multiplexed en s1 s2 p = three (cond en (parameter p (2 * digit s1 + digit s2)) (pos 0)) (pos 0) (pos 0)
 
--- 16 differential trigger: "as 13, Off = On + Δ"; this makes of A, B, On, Δ the parameters of 13
+-- of A, B, On, Δ the parameters of 13
 abbrev pub withOff : List ℤ → List ℤ
 withOff p = parameter p 0 ∷ parameter p 1 ∷ parameter p 2 ∷ (parameter p 2 +ℤ parameter p 3) ∷ []
+
+-- 16 differential trigger: "as 13, Off = On + Δ"
+unfoldable pub differentialTrigger : ℤ → List ℤ → Bool → BlockWords
+differentialTrigger ax p q = thresholdTrigger ax (withOff p) q

@@ -204,11 +204,11 @@ fn digit_of(b: bool) -> u32
 }
 
 // The register moved by one bit.
-fn shifted_by(down: bool, x: bool, register: u32) -> u32
+fn shifted_by(down: bool, input: bool, register: u32) -> u32
     requires { ⌜ register < 2 ^ 31 ⌝ }
-    ensures { λ r. ⌜ (r ≡ shifted down x register) × (r < 2 ^ 31) ⌝ }
+    ensures { λ r. ⌜ (r ≡ shifted down input register) × (r < 2 ^ 31) ⌝ }
 {
-    let one = digit_of(x);
+    let one = digit_of(input);
     if down {
         return register / 2 + 128 * one;
     }
@@ -216,19 +216,19 @@ fn shifted_by(down: bool, x: bool, register: u32) -> u32
 }
 
 // The register after the scan.
-fn stepped_to(rises: bool, down: bool, x: bool, register: u32) -> u32
+fn stepped_to(rises: bool, down: bool, input: bool, register: u32) -> u32
     requires { ⌜ register < 2 ^ 31 ⌝ }
-    ensures { λ r. ⌜ (r ≡ stepped rises down x register) × (r < 2 ^ 31) ⌝ }
+    ensures { λ r. ⌜ (r ≡ stepped rises down input register) × (r < 2 ^ 31) ⌝ }
 {
     if rises {
-        return shifted_by(down, x, register);
+        return shifted_by(down, input, register);
     }
     register
 }
 
 // Kind 12.
 pub fn shift_register(
-    x: bool,
+    input: bool,
     trg: bool,
     down: bool,
     was: bool,
@@ -236,9 +236,9 @@ pub fn shift_register(
     j: u32,
 ) -> BlockWords
     requires { ⌜ (register < 2 ^ 31) × (1 ≤ j) × (j ≤ 8) ⌝ }
-    ensures { λ r. ⌜ r ≡ shiftRegister x trg down was register j ⌝ }
+    ensures { λ r. ⌜ r ≡ shiftRegister input trg down was register j ⌝ }
 {
-    let next = stepped_to(trg & !was, down, x, register);
+    let next = stepped_to(trg & !was, down, input, register);
     let place = j - 1;
     given((next >> place) % 2 == 1, trg, next)
 }

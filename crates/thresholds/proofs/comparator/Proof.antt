@@ -41,7 +41,7 @@ returns c =
     let x = rw (back (c .before .before .before .before .before .before .before .fits .ax), a, b) at (c .before .before .before .before .actual .ensures .0) in
     let y = rw (back (c .before .before .before .before .before .before .before .fits .ay), a, b) at (c .before .actual2 .ensures .0) in
     c .triggered-by .ensures
-    ∙ rw (back (sub-triggered-by (c .before))) (rw (back-ok _ (c .before .before .before .before .actual .ok), back-ok _ (c .before .actual2 .ok), x, y))
+    ∙ rw (back (sub-triggered-by (c .before))) (rw (back-ok (c .before .before .before .before .actual .result) (c .before .before .before .before .actual .ok), back-ok (c .before .actual2 .result) (c .before .actual2 .ok), x, y))
 
 pub comparator-spec : {M : Type 1} → statement M
 comparator-spec =
