@@ -47,9 +47,11 @@ pub record Kind : Type 0 where
   pub times : ℕ
   -- "Option bit 0 is retentive, allowed on kinds 9 to 12"
   pub retentive : Bool
+  -- "digital block", "analog block"
   pub output : Sort
   -- the greatest remembered word; 0 where the kind has no use for it
   pub remembered : ℕ
+  -- "number (Ta, or the register ..)"
   pub number : Number
 
 -- ---- the parameters
@@ -75,92 +77,42 @@ chosen = sixteen ∷ sixteen ∷ sixteen ∷ sixteen ∷ []
 
 -- ---- the kinds
 
--- a digital block with no parameters and no number, by its inputs, what an unused one counts, and its greatest remembered word
-abbrev pub gate : ℕ → Bool → ℕ → Kind
-gate n unused remembered =
+abbrev row : ℕ → ℕ → Bool → List Range → ℕ → Bool → Sort → ℕ → Number → Kind
+row digitals analogs unused parameters times retentive output remembered number =
     record {
-      digitals = n;
-      analogs = 0;
+      digitals = digitals;
+      analogs = analogs;
       unused = unused;
-      parameters = [];
-      times = 0;
-      retentive = false;
-      output = digital;
+      parameters = parameters;
+      times = times;
+      retentive = retentive;
+      output = output;
       remembered = remembered;
-      number = none;
+      number = number;
     }
 
--- a delay, by its inputs: "base, T"
+-- digital and analog inputs, what an unused one counts; parameters, settings among them; retentive; output, remembered word, number
+
+-- a gate, by its inputs, what an unused one counts, and its greatest remembered word
+abbrev pub gate : ℕ → Bool → ℕ → Kind
+gate n unused remembered = row n 0 unused [] 0 false digital remembered none
+
+-- a delay, by its inputs
 abbrev pub delay : ℕ → Kind
-delay n =
-    record {
-      digitals = n;
-      analogs = 0;
-      unused = false;
-      parameters = timed;
-      times = 1;
-      retentive = true;
-      output = digital;
-      remembered = 1;
-      number = elapsed;
-    }
+delay n = row n 0 false timed 1 true digital 1 elapsed
 
 abbrev pub latching : Kind
-latching =
-    record {
-      digitals = 2;
-      analogs = 0;
-      unused = false;
-      parameters = [];
-      times = 0;
-      retentive = true;
-      output = digital;
-      remembered = 0;
-      number = none;
-    }
+latching = row 2 0 false [] 0 true digital 0 none
 
 abbrev pub shifting : Kind
-shifting =
-    record {
-      digitals = 3;
-      analogs = 0;
-      unused = false;
-      parameters = indexed;
-      times = 0;
-      retentive = true;
-      output = digital;
-      remembered = 1;
-      number = upTo 255;
-    }
+shifting = row 3 0 false indexed 0 true digital 1 (upTo 255)
 
--- a threshold on analog inputs, by their number: "A, B, On, Off"
+-- a threshold, by its analog inputs
 abbrev pub trigger : ℕ → Kind
-trigger n =
-    record {
-      digitals = 0;
-      analogs = n;
-      unused = false;
-      parameters = scaled;
-      times = 0;
-      retentive = false;
-      output = digital;
-      remembered = 0;
-      number = none;
-    }
+trigger n = row 0 n false scaled 0 false digital 0 none
 
 abbrev pub choosing : Kind
-choosing =
-    record {
-      digitals = 3;
-      analogs = 0;
-      unused = false;
-      parameters = chosen;
-      times = 0;
-      retentive = false;
-      output = analog;
-      remembered = 0;
-      number = none;
-    }
+choosing = row 3 0 false chosen 0 false analog 0 none
 
 -- the table, by kind; no block has kind 0
 unfoldable pub kinds : List Kind
@@ -174,19 +126,21 @@ kinds =
     ∷ gate 4 false 0  --  6 NOR
     ∷ gate 2 false 0  --  7 XOR
     ∷ gate 1 false 0  --  8 NOT
-    ∷ delay 1  --  9 on-delay: Trg
-    ∷ delay 2  -- 10 off-delay: Trg, R
+    ∷ delay 1  --  9 on-delay: Trg; base, T
+    ∷ delay 2  -- 10 off-delay: Trg, R; base, T
     ∷ latching  -- 11 latching relay: S, R
-    ∷ shifting  -- 12 shift register: In, Trg, Dir
-    ∷ trigger 1  -- 13 analog threshold trigger: Ax
-    ∷ trigger 2  -- 14 comparator: Ax, Ay
-    ∷ choosing  -- 15 multiplexer: En, S1, S2
-    ∷ trigger 1  -- 16 differential trigger: Ax
+    ∷ shifting  -- 12 shift register: In, Trg, Dir; index, bit
+    ∷ trigger 1  -- 13 analog threshold trigger: Ax; A, B, On, Off
+    ∷ trigger 2  -- 14 comparator: Ax, Ay; A, B, On, Off
+    ∷ choosing  -- 15 multiplexer: En, S1, S2; V1..V4
+    ∷ trigger 1  -- 16 differential trigger: Ax; A, B, On, Δ
     ∷ []
 
+-- the entry of a kind
 unfoldable pub kindOf : ℕ → Kind
 kindOf kind = getD kinds kind (gate 0 false 0)
 
+-- whether there is such a kind
 unfoldable pub known : ℕ → Bool
 known kind = leb 1 kind && ltb kind (length kinds)
 
@@ -200,12 +154,14 @@ contentLength k = 2 + 3 * (k .digitals + k .analogs) + 4 * length (k .parameters
 abbrev pub rangeAt : Kind → ℕ → Range
 rangeAt k j = getD (k .parameters) j (pos 0 to pos 0)
 
+-- an analog block is one whose output is a number
 abbrev pub isAnalog : Sort → Bool
 isAnalog digital = false
 isAnalog analog = true
 
 -- ---- when parameters are allowed
 
+-- parameter j, from 0
 abbrev pub parameter : List ℤ → ℕ → ℤ
 parameter p j = getD p j (pos 0)
 
@@ -226,6 +182,7 @@ rangesFit k p =
     && (inRange (rangeAt k 2) (parameter p 2)
     && inRange (rangeAt k 3) (parameter p 3)))
 
+-- whether a block of a kind may have these parameters
 unfoldable pub allowed : ℕ → List ℤ → Bool
 allowed kind p = rangesFit (kindOf kind) p && settingsFit (kindOf kind .times) p
 

@@ -143,10 +143,11 @@ triggersOn value on off q =
     (cond (ltZ on value) true (cond (leZ value off) false q))
     (leZ on value && ltZ value off)
 
+-- a block that triggers on a value, by its On and Off
 abbrev pub triggered : ℤ → List ℤ → Bool → BlockWords
 triggered value p q = shows (triggersOn value (parameter p 2) (parameter p 3) q)
 
--- what an input, a gain and an offset may be
+-- what an input, a gain and an offset may be: the function counts on it, the rule does not
 pub record Scaled (input gain offset : ℤ) : Type 0 where
   pub input-is : Between (minus 32768) (pos 32767) input
   pub gain-is : Between (minus 1000) (pos 1000) gain
