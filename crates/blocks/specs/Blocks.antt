@@ -24,17 +24,21 @@ abbrev pub timeOf : ℕ → List ℤ → Ticks
 timeOf zero p = ticks 0
 timeOf (suc n) p = ticksOf (settingOf (parameter p 0) (parameter p 1))
 
+-- the parameters of a block as its rule takes them
 unfoldable pub prepared : ℕ → List ℤ → Prepared
 prepared kind p = record { time = timeOf (kindOf kind .times) p; params = cond (eqb kind 16) (withOff p) p }
 
 -- ---- a block's three words, as the rules read them
 
+-- "all inputs 1 for kinds 2 and 4; Trg for 9, 10, 12"
 abbrev pub wasBit : BlockWords → Bool
 wasBit was = bitOf (was .remembered)
 
+-- Q of the last scan
 abbrev pub wasOn : BlockWords → Bool
 wasOn was = bitOf (was .output)
 
+-- Ta, or the register
 abbrev pub wasNumber : BlockWords → ℕ
 wasNumber was = over (was .number)
 
@@ -50,25 +54,26 @@ idle b a p was e = three (pos 0) (pos 0) (pos 0)
 -- by kind, from 0; b the digital inputs, a the analog ones
 unfoldable pub rules : List Rule
 rules =
-    idle
-    ∷ (λ b a p was e. andGate b)
-    ∷ (λ b a p was e. andEdge b (wasBit was))
-    ∷ (λ b a p was e. nandGate b)
-    ∷ (λ b a p was e. nandEdge b (wasBit was))
-    ∷ (λ b a p was e. orGate b)
-    ∷ (λ b a p was e. norGate b)
-    ∷ (λ b a p was e. xorGate b)
-    ∷ (λ b a p was e. notGate b)
-    ∷ (λ b a p was e. onDelay (bit b 0) (wasBit was) (ticks (wasNumber was)) (p .time) e)
-    ∷ (λ b a p was e. offDelay (bit b 1) (bit b 0) (wasBit was) (wasOn was) (ticks (wasNumber was)) (p .time) e)
-    ∷ (λ b a p was e. latchingRelay (bit b 1) (bit b 0) (wasOn was))
-    ∷ (λ b a p was e. shiftRegister (bit b 0) (bit b 1) (bit b 2) (wasBit was) (wasNumber was) (over (parameter (p .params) 1)))
-    ∷ (λ b a p was e. thresholdTrigger (parameter a 0) (p .params) (wasOn was))
-    ∷ (λ b a p was e. compared (parameter a 0) (parameter a 1) (p .params) (wasOn was))
-    ∷ (λ b a p was e. multiplexed (bit b 0) (bit b 1) (bit b 2) (p .params))
-    ∷ (λ b a p was e. thresholdTrigger (parameter a 0) (p .params) (wasOn was))
+    idle  -- no kind
+    ∷ (λ b a p was e. andGate b)  -- 1 AND
+    ∷ (λ b a p was e. andEdge b (wasBit was))  -- 2 AND edge
+    ∷ (λ b a p was e. nandGate b)  -- 3 NAND
+    ∷ (λ b a p was e. nandEdge b (wasBit was))  -- 4 NAND edge
+    ∷ (λ b a p was e. orGate b)  -- 5 OR
+    ∷ (λ b a p was e. norGate b)  -- 6 NOR
+    ∷ (λ b a p was e. xorGate b)  -- 7 XOR
+    ∷ (λ b a p was e. notGate b)  -- 8 NOT
+    ∷ (λ b a p was e. onDelay (bit b 0) (wasBit was) (ticks (wasNumber was)) (p .time) e)  -- 9 on-delay: Trg
+    ∷ (λ b a p was e. offDelay (bit b 1) (bit b 0) (wasBit was) (wasOn was) (ticks (wasNumber was)) (p .time) e)  -- 10 off-delay: Trg, R
+    ∷ (λ b a p was e. latchingRelay (bit b 1) (bit b 0) (wasOn was))  -- 11 latching relay: S, R
+    ∷ (λ b a p was e. shiftRegister (bit b 0) (bit b 1) (bit b 2) (wasBit was) (wasNumber was) (over (parameter (p .params) 1)))  -- 12 shift register: In, Trg, Dir; the bit is the second parameter
+    ∷ (λ b a p was e. thresholdTrigger (parameter a 0) (p .params) (wasOn was))  -- 13 analog threshold trigger: Ax
+    ∷ (λ b a p was e. compared (parameter a 0) (parameter a 1) (p .params) (wasOn was))  -- 14 comparator: Ax, Ay
+    ∷ (λ b a p was e. multiplexed (bit b 0) (bit b 1) (bit b 2) (p .params))  -- 15 multiplexer: En, S1, S2
+    ∷ (λ b a p was e. thresholdTrigger (parameter a 0) (p .params) (wasOn was))  -- 16 differential trigger: Ax, with its Off worked out
     ∷ []
 
+-- what a block's three words become
 unfoldable pub workedOut : ℕ → Rule
 workedOut kind = getD rules kind idle
 

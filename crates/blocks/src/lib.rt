@@ -41,24 +41,28 @@ pub fn prepare(kinds: &[[i32; 18]; 17], kind: usize, params: [i32; 4]) -> Prepar
     Prepared { time, params }
 }
 
+// The remembered bit.
 fn was_bit(was: BlockWords) -> bool
     ensures { λ r. ⌜ r ≡ wasBit was ⌝ }
 {
     words::bit_of(was.remembered)
 }
 
+// Q of the last scan.
 fn was_on(was: BlockWords) -> bool
     ensures { λ r. ⌜ r ≡ wasOn was ⌝ }
 {
     words::bit_of(was.output)
 }
 
+// The number: Ta, or the register.
 fn was_number(was: BlockWords) -> u32
     ensures { λ r. ⌜ (r ≡ wasNumber was) × (r < 2 ^ 31) ⌝ }
 {
     words::amount_of(was.number)
 }
 
+// Parameter j, from 0.
 fn parameter_of(p: Prepared, j: usize) -> i32
     requires { ⌜ j < 4 ⌝ }
     ensures { λ r. ⌜ r ≡ parameter (p .params) j ⌝ }
@@ -66,6 +70,7 @@ fn parameter_of(p: Prepared, j: usize) -> i32
     p.params[j]
 }
 
+// A block of kind 9: Trg.
 fn on_block(bits: [bool; 4], p: Prepared, was: BlockWords, e: Ticks) -> BlockWords
     requires { ⌜ (p .time .0 < 2 ^ 31) × (e .0 < 2 ^ 31) ⌝ }
     ensures { λ r. ⌜ r ≡ onDelay (bit bits 0) (wasBit was) (ticks (wasNumber was)) (p .time) e ⌝ }
@@ -75,6 +80,7 @@ fn on_block(bits: [bool; 4], p: Prepared, was: BlockWords, e: Ticks) -> BlockWor
     rules::on_delay(bits[0], was_bit(was), ta, t, e)
 }
 
+// A block of kind 10: Trg, R.
 fn off_block(bits: [bool; 4], p: Prepared, was: BlockWords, e: Ticks) -> BlockWords
     requires { ⌜ (p .time .0 < 2 ^ 31) × (e .0 < 2 ^ 31) ⌝ }
     ensures { λ r. ⌜ r ≡ offDelay (bit bits 1) (bit bits 0) (wasBit was) (wasOn was) (ticks (wasNumber was)) (p .time) e ⌝ }
@@ -84,6 +90,7 @@ fn off_block(bits: [bool; 4], p: Prepared, was: BlockWords, e: Ticks) -> BlockWo
     rules::off_delay(bits[1], bits[0], was_bit(was), was_on(was), ta, t, e)
 }
 
+// A block of kind 12: In, Trg, Dir.
 fn shift_block(bits: [bool; 4], p: Prepared, was: BlockWords) -> BlockWords
     requires { ⌜ Between (pos 1) (pos 8) (parameter (p .params) 1) ⌝ }
     ensures { λ r. ⌜ r ≡ shiftRegister (bit bits 0) (bit bits 1) (bit bits 2) (wasBit was) (wasNumber was) (over (parameter (p .params) 1)) ⌝ }
@@ -93,12 +100,14 @@ fn shift_block(bits: [bool; 4], p: Prepared, was: BlockWords) -> BlockWords
     rules::shift_register(bits[0], bits[1], bits[2], was_bit(was), register, j)
 }
 
+// A block of kind 11: S, R.
 fn relay_block(bits: [bool; 4], was: BlockWords) -> BlockWords
     ensures { λ r. ⌜ r ≡ latchingRelay (bit bits 1) (bit bits 0) (wasOn was) ⌝ }
 {
     rules::latching_relay(bits[1], bits[0], was_on(was))
 }
 
+// A block of kind 13 or 16: Ax.
 fn trigger_block(analog: [i32; 2], p: Prepared, was: BlockWords) -> BlockWords
     requires { ⌜ Sixteen analog × Scaling p ⌝ }
     ensures { λ r. ⌜ r ≡ thresholdTrigger (parameter analog 0) (p .params) (wasOn was) ⌝ }
@@ -107,6 +116,7 @@ fn trigger_block(analog: [i32; 2], p: Prepared, was: BlockWords) -> BlockWords
     thresholds::threshold_trigger(analog[0], params, was_on(was))
 }
 
+// A block of kind 14: Ax, Ay.
 fn compare_block(analog: [i32; 2], p: Prepared, was: BlockWords) -> BlockWords
     requires { ⌜ Sixteen analog × Scaling p ⌝ }
     ensures { λ r. ⌜ r ≡ compared (parameter analog 0) (parameter analog 1) (p .params) (wasOn was) ⌝ }
@@ -115,6 +125,7 @@ fn compare_block(analog: [i32; 2], p: Prepared, was: BlockWords) -> BlockWords
     thresholds::comparator(analog[0], analog[1], params, was_on(was))
 }
 
+// A block of kind 15: En, S1, S2.
 fn choice_block(bits: [bool; 4], p: Prepared) -> BlockWords
     ensures { λ r. ⌜ r ≡ multiplexed (bit bits 0) (bit bits 1) (bit bits 2) (p .params) ⌝ }
 {
@@ -129,7 +140,7 @@ fn nothing() -> BlockWords
     rules::three_of(0, 0, 0)
 }
 
-// What a block's three words become.
+// What a block's three words become, by its kind: from its digital and analog inputs, resolved together, its parameters, its words and e.
 pub fn worked_out(
     kind: usize,
     bits: [bool; 4],

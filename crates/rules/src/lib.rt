@@ -43,12 +43,14 @@ pub fn shown(q: bool) -> BlockWords
 
 // ---- kinds 1 to 8
 
+// Whether all four are 1.
 fn all_of(bits: [bool; 4]) -> bool
     ensures { λ r. ⌜ r ≡ allOf bits ⌝ }
 {
     words::both(bits[0], words::both(bits[1], words::both(bits[2], bits[3])))
 }
 
+// Whether some is 1.
 fn some_of(bits: [bool; 4]) -> bool
     ensures { λ r. ⌜ r ≡ someOf bits ⌝ }
 {
@@ -58,14 +60,14 @@ fn some_of(bits: [bool; 4]) -> bool
     )
 }
 
-// Kind 1.
+// Kind 1, AND: all are 1.
 pub fn and_gate(bits: [bool; 4]) -> BlockWords
     ensures { λ r. ⌜ r ≡ andGate bits ⌝ }
 {
     shown(all_of(bits))
 }
 
-// Kind 2.
+// Kind 2, AND edge: all are 1 now and were not in the last scan.
 pub fn and_edge(bits: [bool; 4], was: bool) -> BlockWords
     ensures { λ r. ⌜ r ≡ andEdge bits was ⌝ }
 {
@@ -73,14 +75,14 @@ pub fn and_edge(bits: [bool; 4], was: bool) -> BlockWords
     given(all & !was, all, 0)
 }
 
-// Kind 3.
+// Kind 3, NAND: not all are 1.
 pub fn nand_gate(bits: [bool; 4]) -> BlockWords
     ensures { λ r. ⌜ r ≡ nandGate bits ⌝ }
 {
     shown(!all_of(bits))
 }
 
-// Kind 4.
+// Kind 4, NAND edge: not all are 1 now and all were in the last scan.
 pub fn nand_edge(bits: [bool; 4], was: bool) -> BlockWords
     ensures { λ r. ⌜ r ≡ nandEdge bits was ⌝ }
 {
@@ -88,28 +90,28 @@ pub fn nand_edge(bits: [bool; 4], was: bool) -> BlockWords
     given(!all & was, all, 0)
 }
 
-// Kind 5.
+// Kind 5, OR: some is 1.
 pub fn or_gate(bits: [bool; 4]) -> BlockWords
     ensures { λ r. ⌜ r ≡ orGate bits ⌝ }
 {
     shown(some_of(bits))
 }
 
-// Kind 6.
+// Kind 6, NOR: none is 1.
 pub fn nor_gate(bits: [bool; 4]) -> BlockWords
     ensures { λ r. ⌜ r ≡ norGate bits ⌝ }
 {
     shown(!some_of(bits))
 }
 
-// Kind 7.
+// Kind 7, XOR: the two differ.
 pub fn xor_gate(bits: [bool; 4]) -> BlockWords
     ensures { λ r. ⌜ r ≡ xorGate bits ⌝ }
 {
     shown(bits[0] ^ bits[1])
 }
 
-// Kind 8.
+// Kind 8, NOT: the opposite.
 pub fn not_gate(bits: [bool; 4]) -> BlockWords
     ensures { λ r. ⌜ r ≡ notGate bits ⌝ }
 {
@@ -127,7 +129,7 @@ fn grown_to(ta: Ticks, t: Ticks, e: Ticks) -> u32
     if t.0 < sum { t.0 } else { sum }
 }
 
-// Kind 9.
+// Kind 9, on-delay.
 pub fn on_delay(trg: bool, was: bool, ta: Ticks, t: Ticks, e: Ticks) -> BlockWords
     requires { ⌜ (ta .0 < 2 ^ 31) × (t .0 < 2 ^ 31) × (e .0 < 2 ^ 31) ⌝ }
     ensures { λ r. ⌜ r ≡ onDelay trg was ta t e ⌝ }
@@ -154,7 +156,7 @@ fn fading(ta: Ticks, t: Ticks, e: Ticks) -> BlockWords
     given(true, false, run)
 }
 
-// Kind 10.
+// Kind 10, off-delay.
 pub fn off_delay(
     r: bool,
     trg: bool,
@@ -184,7 +186,7 @@ pub fn off_delay(
 
 // ---- the memories
 
-// Kind 11.
+// Kind 11, latching relay: 0 if R, else 1 if S, else as before.
 pub fn latching_relay(r: bool, s: bool, q: bool) -> BlockWords
     ensures { λ w. ⌜ w ≡ latchingRelay r s q ⌝ }
 {
@@ -197,6 +199,7 @@ pub fn latching_relay(r: bool, s: bool, q: bool) -> BlockWords
     shown(q)
 }
 
+// A bit as a digit.
 fn digit_of(b: bool) -> u32
     ensures { λ r. ⌜ (r ≡ digit b) × (r ≤ 1) ⌝ }
 {
@@ -226,7 +229,7 @@ fn stepped_to(rises: bool, down: bool, input: bool, register: u32) -> u32
     register
 }
 
-// Kind 12.
+// Kind 12, shift register: bit j after the step.
 pub fn shift_register(
     input: bool,
     trg: bool,
@@ -243,7 +246,7 @@ pub fn shift_register(
     given((next >> place) % 2 == 1, trg, next)
 }
 
-// Kind 15.
+// Kind 15, multiplexer: 0 without En, else V1 to V4 by S1 and S2.
 pub fn multiplexer(en: bool, s1: bool, s2: bool, params: [i32; 4]) -> BlockWords
     ensures { λ r. ⌜ r ≡ multiplexed en s1 s2 params ⌝ }
 {

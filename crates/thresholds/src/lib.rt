@@ -6,7 +6,7 @@ ghost use Rattle.kinds.specs.Kinds.{parameter};
 ghost use Rattle.rules.specs.Rules.{actualOf, triggersOn, triggered, Scaled, thresholdTrigger, compared, withOff};
 use rules::BlockWords;
 
-// The actual value of an analog input.
+// The actual value of an analog input: input · A / 100 toward zero, plus B.
 pub fn actual(input: i32, gain: i32, offset: i32) -> i32
     requires { ⌜ Scaled input gain offset ⌝ }
     ensures { λ r. ⌜ (r ≡ actualOf input gain offset) × Between (minus 337680) (pos 337680) r ⌝ }
@@ -14,7 +14,7 @@ pub fn actual(input: i32, gain: i32, offset: i32) -> i32
     input * gain / 100 + offset
 }
 
-// Whether a value triggers.
+// Q of a block that triggers on a value, by On, Off and Q of the last scan.
 pub fn triggers(value: i32, on: i32, off: i32, q: bool) -> bool
     ensures { λ r. ⌜ r ≡ triggersOn value on off q ⌝ }
 {
@@ -37,7 +37,7 @@ fn triggered_by(value: i32, params: [i32; 4], q: bool) -> BlockWords
     rules::shown(triggers(value, params[2], params[3], q))
 }
 
-// Kind 13, and kind 16 with its Off worked out.
+// Kind 13, analog threshold trigger: on actual Ax. Kind 16 too, its Off worked out.
 pub fn threshold_trigger(ax: i32, params: [i32; 4], q: bool) -> BlockWords
     requires { ⌜ Scaled ax (parameter params 0) (parameter params 1) ⌝ }
     ensures { λ r. ⌜ r ≡ thresholdTrigger ax params q ⌝ }
@@ -45,7 +45,7 @@ pub fn threshold_trigger(ax: i32, params: [i32; 4], q: bool) -> BlockWords
     triggered_by(actual(ax, params[0], params[1]), params, q)
 }
 
-// Kind 14.
+// Kind 14, comparator: on actual Ax minus actual Ay.
 pub fn comparator(ax: i32, ay: i32, params: [i32; 4], q: bool) -> BlockWords
     requires { ⌜ Scaled ax (parameter params 0) (parameter params 1) × Scaled ay (parameter params 0) (parameter params 1) ⌝ }
     ensures { λ r. ⌜ r ≡ compared ax ay params q ⌝ }
@@ -55,7 +55,7 @@ pub fn comparator(ax: i32, ay: i32, params: [i32; 4], q: bool) -> BlockWords
     triggered_by(x - y, params, q)
 }
 
-// Kind 16: its parameters as kind 13 takes them.
+// Kind 16, differential trigger: its parameters as kind 13 takes them, with Off for Δ.
 pub fn with_off(params: [i32; 4]) -> [i32; 4]
     requires { ⌜ Between (minus 20000) (pos 20000) (parameter params 2) × Between (minus 20000) (pos 20000) (parameter params 3) ⌝ }
     ensures { λ r. ⌜ r ≡ withOff params ⌝ }

@@ -80,7 +80,7 @@ pub fn bits_of(x: i32) -> u32
     }
 }
 
-// Two bytes at a place become those of a number, of which a greater one leaves what is over 65,535.
+// Two bytes at a place become those of a number; of a greater one than 65,535 the last two.
 pub fn put_two(bytes: &mut [u8], at: usize, n: usize)
     requires { ⌜ at + 2 ≤ length (now bytes) ⌝ }
     ensures { λ r. ⌜ now (bytes .exit) ≡ sets (now (bytes .entry)) at (bytesOf 2 n) ⌝ }
