@@ -6,7 +6,7 @@ use mathlib.Core.List.{List, [], _∷_}
 use Prim.Native.Nat.{ℕ}
 use lib.ListN.{replicate}
 use lib.IntN.{ℤ, pos}
-use Rattle.kinds.specs.Time.{settingOf, ticksOf}
+use Rattle.kinds.specs.Time.{ticksOf}
 use Rattle.kinds.specs.Kinds.{kinds, kindOf, settingFits}
 use Rattle.kinds.specs.declared.Ticks.{Ticks}
 use Rattle.rules.specs.declared.BlockWords.{BlockWords}

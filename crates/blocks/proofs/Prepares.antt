@@ -1,7 +1,7 @@
 -- Allowed parameters, made ready, are what the rules count on; and at most 35,994,000 ticks. Assumes nothing.
-use mathlib.Core.Path.{_≡_, refl, ap}
+use mathlib.Core.Path.{_≡_, refl}
 use mathlib.Core.Bool.{Bool, true, false, cond}
-use mathlib.Core.List.{List, [], _∷_}
+use mathlib.Core.List.{List}
 use Prim.Native.Nat.{ℕ, zero, suc, _≤_, _<_}
 use native.Mathlib.Omega.{arith}
 use borrow.Author.Tests.{eqb-true}
@@ -13,7 +13,6 @@ use Rattle.kinds.proofs.Allowed.{param-in, ticks-most}
 use Rattle.kinds.specs.declared.Ticks.{Ticks}
 use Rattle.rules.specs.declared.BlockWords.{BlockWords}
 use Rattle.rules.specs.Rules.{bit, onDelay, offDelay, withOff, differentialTrigger}
-use Rattle.blocks.specs.declared.Prepared.{Prepared}
 use Rattle.blocks.specs.Blocks.{ticks, wasBit, wasOn, wasNumber, timeOf, prepared, rules, workedOut, Fit}
 
 -- Off aside, the parameters stay as they were

@@ -7,11 +7,11 @@ use native.Mathlib.Omega.{arith}
 use borrow.Author.Tests.{eqb-true, eqb-false, leb-true, leb-false}
 use lib.Dec.{eqb, leb}
 use lib.ListN.{getD, List·getD-eq-default}
-use lib.IntN.{ℤ, pos}
+use lib.IntN.{pos}
 use Rattle.words.specs.Signed.{Between}
-use Rattle.kinds.specs.Kinds.{Range, _to_, kindOf, parameter, rangeAt, scaled, indexed}
+use Rattle.kinds.specs.Kinds.{Range, _to_, kindOf, parameter, scaled, indexed}
 use Rattle.blocks.specs.declared.Prepared.{Prepared}
-use Rattle.blocks.specs.Blocks.{Rule, idle, rules, workedOut, Fit, Scaling}
+use Rattle.blocks.specs.Blocks.{idle, rules, workedOut, Fit, Scaling}
 
 module _ {kind : ℕ} {p : Prepared} (f : Fit kind p) where
   -- a parameter in the range that its kind's list of parameters has

@@ -3,19 +3,18 @@
 use mathlib.Core.Path.{_≡_, refl}
 use mathlib.Core.Bool.{Bool, true, false, not, cond, _&&_, Bool·beq}
 use mathlib.Core.List.{List, [], _∷_}
-use Prim.Native.Nat.{ℕ, zero, suc, _+_, _*_, _≤_, _<_, min}
+use Prim.Native.Nat.{ℕ, zero, suc, _+_, _*_, _≤_}
 use native.Mathlib.Omega.{arith}
 use lib.Dec.{ltb, eqb}
 use lib.ListN.{getD}
 use lib.IntN.{ℤ, pos, _-ℤ_}
-use Rattle.words.specs.Signed.{over, wordOf, Between}
+use Rattle.words.specs.Signed.{wordOf, Between}
 use Rattle.words.proofs.Bounds.{count-between, amount-between}
 use Rattle.words.proofs.Bits.{word-between}
-use Rattle.words.proofs.Ranges.{wider}
-use Rattle.kinds.specs.Kinds.{Kind, Sort, digital, analog, none, elapsed, upTo, In, sixteen, gate, delay, latching, shifting, trigger, choosing, kinds, kindOf, chosen, mostOf, parameter, sortRange, outputRange, rememberedRange}
+use Rattle.kinds.specs.Kinds.{Kind, Sort, digital, analog, none, elapsed, upTo, In, sixteen, delay, latching, shifting, trigger, choosing, kinds, kindOf, chosen, mostOf, parameter, sortRange, outputRange, rememberedRange}
 use Rattle.kinds.specs.declared.Ticks.{Ticks}
 use Rattle.rules.specs.declared.BlockWords.{BlockWords}
-use Rattle.rules.specs.Rules.{three, gives, shows, bit, allOf, someOf, andGate, andEdge, nandGate, nandEdge, orGate, norGate, xorGate, notGate, grown, fades, onDelay, offDelay, latchingRelay, digit, registerBit, stepped, shiftRegister, actualOf, triggersOn, thresholdTrigger, compared, multiplexed}
+use Rattle.rules.specs.Rules.{three, gives, shows, bit, allOf, someOf, andGate, andEdge, nandGate, nandEdge, orGate, norGate, xorGate, notGate, grown, onDelay, offDelay, latchingRelay, digit, registerBit, stepped, shiftRegister, actualOf, triggersOn, thresholdTrigger, compared, multiplexed}
 use Rattle.rules.proofs.Register.{shifted-below}
 use Rattle.blocks.specs.declared.Prepared.{Prepared}
 use Rattle.blocks.specs.Blocks.{ticks, wasBit, wasOn, wasNumber, Rule, idle, rules, workedOut, Fit, Sound}

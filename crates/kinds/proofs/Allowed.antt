@@ -1,7 +1,7 @@
 -- What allowed parameters are: each in its range, a setting in that of its timebase, and so at most 35,994,000 ticks.
 -- Assumes nothing.
 use mathlib.Core.Path.{_≡_, refl, sym, subst}
-use mathlib.Core.Bool.{Bool, true, false, not, _&&_, _||_}
+use mathlib.Core.Bool.{Bool, true, not, _&&_, _||_}
 use mathlib.Core.List.{List}
 use Prim.Native.Nat.{ℕ, zero, suc, _*_, _≤_, _<_}
 use native.Mathlib.Omega.{arith}
@@ -9,7 +9,7 @@ use borrow.Author.Tests.{le-leb}
 use lib.Dec.{T, leb}
 use lib.IntN.{ℤ, pos}
 use lib.Signed.{leZ}
-use Rattle.words.specs.Signed.{over, isWithin, Between}
+use Rattle.words.specs.Signed.{over, Between}
 use Rattle.words.proofs.Bounds.{and-true, amount-between}
 use Rattle.words.proofs.Ranges.{wider}
 use Rattle.kinds.specs.Time.{unit, longest, settingOf, ticksOf}

@@ -8,7 +8,7 @@ use native.Mathlib.Omega.{arith}
 use borrow.Author.Tests.{leb-true}
 use lib.Dec.{leb}
 use lib.ListN.{length, getD, List·getD-map}
-use lib.IntN.{ℤ, pos}
+use lib.IntN.{pos}
 use Rattle.words.proofs.Bounds.{and-true}
 use Rattle.kinds.specs.Kinds.{Kind, gate, kinds, kindOf, contentLength, rangeAt, scaled, timed, indexed, chosen}
 use Rattle.kinds.specs.Table.{rowOf, kindsTable, cell}

@@ -1,18 +1,17 @@
 -- Sizes of signed numbers: what the size of a sum, a product and a quotient is bounded by, and that they fit 32 bits.
 -- Assumes nothing.
-use mathlib.Core.Path.{_≡_, refl, sym, ap, _∙_}
+use mathlib.Core.Path.{_≡_, refl}
 use mathlib.Core.Bool.{Bool, true, false, _&&_}
 use Prim.Native.Nat.{ℕ, zero, suc, _+_, _*_, _/_, _^_, _≤_, _<_}
 use native.Mathlib.Nat.{mul-le-mul, div-le-self}
 use native.Mathlib.Omega.{arith}
 use lib.Dec.{T}
-use lib.IntN.{ℤ, pos, negsuc, natAbs, negℤ, _+ℤ_, _-ℤ_, _*ℤ_, +ℤ-idl}
+use lib.IntN.{ℤ, pos, negsuc, natAbs, negℤ, _+ℤ_, _-ℤ_, _*ℤ_}
 use lib.Signed.{leZ, quotZ, nonNeg}
 use mir.Syntax.{Width}
 use mir.Val.{Fits, SFits, hbits}
 use mir.ValLaws.{half-full}
-use Rattle.words.specs.Signed.{isWithin, Between}
-use Rattle.words.specs.Signed.{over, under}
+use Rattle.words.specs.Signed.{Between, over, under}
 use Rattle.words.proofs.Sides.{abs-is, fits-sides, sides-fit, leZ-true, le-leZ, neg-over, neg-under, add-sides, sub-sides′, quot-over, quot-under}
 
 -- ---- the size
@@ -125,18 +124,6 @@ abs-up (negsuc n) h = absurd (omega arith)
 pub abs-down : (z : ℤ) → over z ≤ under z → natAbs z + over z ≡ under z
 abs-down (pos n) h = omega arith
 abs-down (negsuc n) h = omega arith
-
-pub whole-up : (z : ℤ) → under z ≤ over z → pos (natAbs z) ≡ z
-whole-up (pos n) h = refl
-whole-up (negsuc n) h = absurd (omega arith)
-
-pub quot-up : (z : ℤ) (k : ℕ) → under z ≤ over z → pos (natAbs z / k) ≡ quotZ z (pos k)
-quot-up (pos n) k h = refl
-quot-up (negsuc n) k h = absurd (omega arith)
-
-pub quot-down : (z : ℤ) (k : ℕ) → over z < under z → pos 0 -ℤ pos (natAbs z / k) ≡ quotZ z (pos k)
-quot-down (pos n) k h = absurd (omega arith)
-quot-down (negsuc n) k h = +ℤ-idl (negℤ (pos (suc n / k)))
 
 -- what a cast to an unsigned type asks
 pub cast-up : {w : Width} (z : ℤ) → under z ≤ over z → SFits w z → T (nonNeg z) × Fits w (natAbs z)

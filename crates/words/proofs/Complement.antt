@@ -1,15 +1,13 @@
 -- Two's complement: what the upper half of the bits stands for, at every width. Assumes nothing.
-use mathlib.Core.Path.{_≡_, ap, sym, _∙_}
-use mathlib.Core.Bool.{Bool}
-use Prim.Native.Nat.{ℕ, suc, _+_, _-_, _≤_, _<_, _^_}
+use mathlib.Core.Path.{_≡_}
+use Prim.Native.Nat.{ℕ, suc, _-_, _≤_, _<_, _^_}
 use native.Mathlib.Omega.{arith}
 use borrow.Author.Tests.{le-ltb}
-use lib.IntN.{ℤ, pos, negsuc, _-ℤ_}
+use lib.IntN.{pos, negsuc, _-ℤ_}
 use mir.Syntax.{Width, w32}
 use mir.Val.{SFits, bits, hbits, toZ}
 use mir.Facts.{toZ-pos}
 use Rattle.words.proofs.Sides.{same, sub-sides′}
-use Rattle.words.proofs.Locals.{back}
 
 pub upper : (w : Width) (n : ℕ) → 2 ^ hbits w ≤ n → toZ w n ≡ negsuc (2 ^ bits w - suc n)
 upper w n h = simp (le-ltb n (2 ^ hbits w) h)

@@ -2,14 +2,14 @@
 -- quotient fits 32 bits where each operand lies between two literals (`Between`, in what the need is handed) and the
 -- literals leave room, which computes. Assumes nothing.
 use mathlib.Core.Path.{_≡_}
-use Prim.Native.Nat.{ℕ, zero, suc, zero-le, max, _+_, _*_, _/_, _^_, _≤_, _<_}
+use Prim.Native.Nat.{ℕ, zero, suc, zero-le, max, _+_, _*_, _/_, _^_, _≤_}
 use native.Mathlib.Nat.{le-max-left, le-max-right, mul-le-mul, div-zero, div-mul-le-self, le-div-iff-mul-le, le-trans, zero-lt-suc}
 use native.Mathlib.Omega.{arith}
 use lib.Dec.{T, ltb, ltb→lt}
 use lib.IntN.{ℤ, pos, natAbs, negℤ, _+ℤ_, _-ℤ_, _*ℤ_}
 use lib.Signed.{leZ, quotZ, _≤ℤ_, leZ-yes}
-use mir.Syntax.{Width, w32}
-use mir.Val.{SFits, hbits}
+use mir.Syntax.{w32}
+use mir.Val.{SFits}
 use Rattle.words.specs.Signed.{Between}
 use Rattle.words.proofs.Sides.{abs-is, ≤-sides, sides-≤}
 use Rattle.words.proofs.Bounds.{abs-le, between-sides, sides-between, abs-mul, abs-add, abs-sub, abs-quot, abs-between, abs-fits, add-fits, sub-fits, quot-fits}

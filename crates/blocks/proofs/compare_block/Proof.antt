@@ -1,7 +1,6 @@
 -- `blocks::compare_block` meets its contract. Assumes nothing.
-use mathlib.Core.Path.{_≡_, _∙_, refl, sym, ap}
-use Rattle.words.proofs.Locals.{back, back-ok, back-to}
-use Rattle.words.proofs.Ranges.{whole}
+use mathlib.Core.Path.{_∙_}
+use Rattle.words.proofs.Locals.{back-ok}
 use Rattle.kinds.specs.Kinds.{parameter}
 use borrow.Author.Needs.{needs}
 use Rattle.blocks.proofs.compare_block.Statement.{statement}

@@ -1,5 +1,5 @@
 -- `blocks::on_block` meets its contract. Assumes nothing.
-use mathlib.Core.Path.{_≡_, _∙_, refl, sym, ap}
+use mathlib.Core.Path.{_∙_}
 use borrow.Author.Needs.{needs}
 use Rattle.blocks.proofs.on_block.Statement.{statement}
 use Rattle.blocks.proofs.on_block.Tie as tie

@@ -1,9 +1,8 @@
 -- `blocks::prepare` meets its contract: kind 16 has its Off worked out. Assumes nothing.
-use mathlib.Core.Path.{_≡_, _∙_, refl, sym, ap}
-use Rattle.kinds.proofs.Allowed.{param-in, base-in, time-in}
+use Rattle.kinds.proofs.Allowed.{param-in}
 use borrow.Author.Tests.{eq-eqb, ne-eqb}
 use native.Mathlib.Omega.{arith}
-use Rattle.kinds.specs.Kinds.{kindOf, kinds, scaled, parameter}
+use Rattle.kinds.specs.Kinds.{kindOf, kinds, scaled}
 use Rattle.blocks.specs.Blocks.{prepared}
 use borrow.Author.Needs.{needs}
 use Rattle.blocks.proofs.prepare.Statement.{statement}

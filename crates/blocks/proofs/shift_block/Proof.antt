@@ -1,7 +1,6 @@
 -- `blocks::shift_block` meets its contract: the configured bit is one of eight. Assumes nothing.
-use mathlib.Core.Path.{_≡_, _∙_, refl, sym, ap}
-use Rattle.words.proofs.Locals.{back, back-ok, back-to}
-use Prim.Native.Nat.{_≤_}
+use mathlib.Core.Path.{_≡_, _∙_, ap}
+use Rattle.words.proofs.Locals.{back-to}
 use native.Mathlib.Omega.{arith}
 use Rattle.words.specs.Signed.{over}
 use Rattle.words.proofs.Bounds.{amount-between}

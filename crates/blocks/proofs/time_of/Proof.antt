@@ -1,12 +1,12 @@
 -- `blocks::time_of` meets its contract: a kind has a setting, or it has none. Assumes nothing.
 use mathlib.Core.Path.{_≡_, _∙_, refl, sym, ap}
-use Rattle.words.proofs.Locals.{back, back-ok, back-to}
-use Rattle.kinds.proofs.Allowed.{param-in, base-in, time-in}
+use Rattle.words.proofs.Locals.{back-ok}
+use Rattle.kinds.proofs.Allowed.{base-in, time-in}
 use Prim.Native.Nat.{ℕ, zero, suc, _≤_}
 use native.Mathlib.Omega.{arith}
 use mathlib.Core.List.{List}
 use lib.IntN.{ℤ}
-use Rattle.kinds.specs.Kinds.{kindOf, parameter}
+use Rattle.kinds.specs.Kinds.{parameter}
 use Rattle.kinds.specs.Time.{settingOf, ticksOf}
 use Rattle.blocks.specs.Blocks.{timeOf}
 use borrow.Author.Needs.{needs}

@@ -1,5 +1,5 @@
 -- `blocks::worked_out` meets its contract: each arm has the rule of its kind. Assumes nothing.
-use mathlib.Core.Path.{_≡_, _∙_, sym, ap}
+use mathlib.Core.Path.{_∙_, ap}
 use Prim.Native.Nat.{ℕ}
 use Rattle.kinds.specs.Kinds.{kindOf, kinds}
 use Rattle.blocks.specs.Blocks.{rules, workedOut}

@@ -1,5 +1,5 @@
 -- `kinds::are_allowed` meets its contract. Assumes nothing.
-use mathlib.Core.Path.{_≡_, _∙_}
+use mathlib.Core.Path.{_∙_}
 use Rattle.kinds.specs.Kinds.{allowed}
 use borrow.Author.Needs.{needs}
 use Rattle.kinds.proofs.are_allowed.Statement.{statement}

@@ -1,7 +1,6 @@
 -- `kinds::is_analog` meets its contract: a cell of the row. Assumes nothing.
-use Rattle.kinds.specs.Kinds.{kindOf}
+use Rattle.kinds.specs.Kinds.{kindOf, Sort, digital, analog, isAnalog}
 use mathlib.Core.Path.{_≡_, refl, _∙_}
-use Rattle.kinds.specs.Kinds.{Sort, digital, analog, isAnalog}
 use Rattle.kinds.specs.Table.{sortWord, rowOf, cell}
 use Rattle.words.specs.Signed.{bitOf}
 use borrow.Author.Needs.{needs}

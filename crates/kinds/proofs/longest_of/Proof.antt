@@ -1,6 +1,5 @@
 -- `kinds::longest_of` meets its contract: the timebase is 0, or it is not. Assumes nothing.
 use Rattle.words.proofs.Locals.{back}
-use Rattle.words.specs.Signed.{over}
 use mathlib.Core.Path.{_≡_, sym, ap, refl, _∙_}
 use Prim.Native.Nat.{ℕ, zero, suc}
 use lib.IntN.{pos}

@@ -1,6 +1,6 @@
 -- `kinds::output_fits` meets its contract: by the sort of the output. Assumes nothing.
 use mathlib.Core.Path.{_≡_, sym, refl, _∙_}
-use mathlib.Core.Bool.{Bool, true, false}
+use mathlib.Core.Bool.{true, false}
 use Prim.Native.Nat.{ℕ}
 use native.Mathlib.Omega.{arith}
 use lib.IntN.{ℤ, pos}

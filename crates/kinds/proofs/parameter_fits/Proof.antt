@@ -1,5 +1,5 @@
 -- `kinds::parameter_fits` meets its contract: the two ends are cells of the row. Assumes nothing.
-use mathlib.Core.Path.{_≡_, _∙_}
+use mathlib.Core.Path.{_∙_}
 use Rattle.words.proofs.Locals.{back, back-to}
 use Rattle.kinds.proofs.Rows.{least-is, greatest-is}
 use borrow.Author.Needs.{needs}

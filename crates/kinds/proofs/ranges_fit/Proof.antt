@@ -1,6 +1,6 @@
 -- `kinds::ranges_fit` meets its contract. Assumes nothing.
 use Rattle.kinds.specs.Kinds.{parameter}
-use mathlib.Core.Path.{_≡_, _∙_}
+use mathlib.Core.Path.{_∙_}
 use Rattle.words.proofs.Locals.{back-ok}
 use borrow.Author.Needs.{needs}
 use Rattle.kinds.proofs.ranges_fit.Statement.{statement}

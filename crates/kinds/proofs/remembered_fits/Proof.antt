@@ -1,5 +1,5 @@
 -- `kinds::remembered_fits` meets its contract: the greatest is a cell of the row. Assumes nothing.
-use mathlib.Core.Path.{_≡_, _∙_}
+use mathlib.Core.Path.{_∙_}
 use Rattle.kinds.specs.Table.{rowOf, cell}
 use Rattle.words.proofs.Locals.{back, back-to}
 use borrow.Author.Needs.{needs}

@@ -1,5 +1,5 @@
 -- `kinds::setting_fits` meets its contract. Assumes nothing.
-use mathlib.Core.Path.{_≡_, _∙_}
+use mathlib.Core.Path.{_∙_}
 use Rattle.words.proofs.Locals.{back, back-to}
 use borrow.Author.Needs.{needs}
 use Rattle.kinds.proofs.setting_fits.Statement.{statement}

@@ -1,6 +1,5 @@
 -- `kinds::setting_of` meets its contract: what is allowed fits the two fields. Assumes nothing.
 use Rattle.words.proofs.Bounds.{amount-between}
-use mathlib.Core.Path.{_≡_, ap, ap₂, _∙_}
 use native.Mathlib.Omega.{arith}
 use Rattle.words.proofs.Locals.{back}
 use borrow.Author.Needs.{needs}

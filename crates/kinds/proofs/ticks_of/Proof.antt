@@ -4,8 +4,6 @@ use Prim.Native.Nat.{ℕ, zero, suc, _*_}
 use native.Mathlib.Nat.{one-mul}
 use Rattle.kinds.specs.declared.Ticks.{Ticks}
 use Rattle.kinds.specs.Time.{unit, ticksOf}
-use mathlib.Core.Path.{ap}
-use Rattle.kinds.specs.Time.{ticksOf}
 use borrow.Author.Needs.{needs}
 use Rattle.kinds.proofs.ticks_of.Statement.{statement}
 use Rattle.kinds.proofs.ticks_of.Tie as tie

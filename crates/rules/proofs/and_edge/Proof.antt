@@ -1,5 +1,5 @@
 -- `rules::and_edge` meets its contract. Assumes nothing.
-use mathlib.Core.Path.{_≡_, _∙_, refl, sym, ap}
+use mathlib.Core.Path.{_∙_}
 use Rattle.rules.specs.Rules.{andEdge}
 use borrow.Author.Needs.{needs}
 use Rattle.rules.proofs.and_edge.Statement.{statement}

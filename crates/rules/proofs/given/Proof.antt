@@ -1,5 +1,5 @@
 -- `rules::given` meets its contract: each field is the word that was made of it. Assumes nothing.
-use mathlib.Core.Path.{_≡_, _∙_, refl, sym, ap}
+use mathlib.Core.Path.{_∙_}
 use Rattle.words.proofs.Locals.{back-to}
 use borrow.Author.Needs.{needs}
 use Rattle.rules.proofs.given.Statement.{statement}

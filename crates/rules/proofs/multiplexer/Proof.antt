@@ -1,7 +1,6 @@
 -- `rules::multiplexer` meets its contract: the place among V1 to V4 is twice S1 and S2. Assumes nothing.
-use mathlib.Core.Path.{_≡_, _∙_, refl, sym, ap}
-use Rattle.words.proofs.Locals.{back, back-ok}
-use Rattle.kinds.specs.Kinds.{parameter}
+use mathlib.Core.Path.{_∙_}
+use Rattle.words.proofs.Locals.{back-ok}
 use borrow.Author.Tests.{not-true, not-false}
 use Rattle.rules.specs.Rules.{multiplexed}
 use borrow.Author.Needs.{needs}

@@ -1,5 +1,4 @@
 -- `rules::not_gate` meets its contract. Assumes nothing.
-use mathlib.Core.Path.{_≡_, _∙_, refl, sym, ap}
 use Rattle.rules.specs.Rules.{notGate}
 use borrow.Author.Needs.{needs}
 use Rattle.rules.proofs.not_gate.Statement.{statement}

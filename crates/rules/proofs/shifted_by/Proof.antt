@@ -1,5 +1,4 @@
 -- `rules::shifted_by` meets its contract: by the direction. Assumes nothing.
-use mathlib.Core.Path.{_≡_, _∙_, refl, sym, ap}
 use native.Mathlib.Omega.{arith}
 use borrow.Author.Needs.{needs}
 use Rattle.rules.proofs.shifted_by.Statement.{statement}

@@ -1,5 +1,4 @@
 -- `rules::stepped_to` meets its contract. Assumes nothing.
-use mathlib.Core.Path.{_≡_, _∙_, refl, sym, ap}
 use borrow.Author.Needs.{needs}
 use Rattle.rules.proofs.stepped_to.Statement.{statement}
 use Rattle.rules.proofs.stepped_to.Tie as tie

@@ -1,5 +1,4 @@
 -- `rules::xor_gate` meets its contract. Assumes nothing.
-use mathlib.Core.Path.{_≡_, _∙_, refl, sym, ap}
 use Rattle.rules.specs.Rules.{xorGate}
 use borrow.Author.Needs.{needs}
 use Rattle.rules.proofs.xor_gate.Statement.{statement}

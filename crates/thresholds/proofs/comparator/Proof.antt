@@ -1,5 +1,5 @@
 -- `thresholds::comparator` meets its contract: the difference of two actual values fits. Assumes nothing.
-use mathlib.Core.Path.{_≡_, _∙_, refl, sym, ap}
+use mathlib.Core.Path.{_∙_}
 use Rattle.words.proofs.Locals.{back, back-ok}
 use Rattle.kinds.specs.Kinds.{parameter}
 use Rattle.words.proofs.Ranges.{whole}

@@ -1,5 +1,5 @@
 -- `thresholds::threshold_trigger` meets its contract. Assumes nothing.
-use mathlib.Core.Path.{_≡_, _∙_, refl, sym, ap}
+use mathlib.Core.Path.{_∙_}
 use Rattle.words.proofs.Locals.{back, back-ok}
 use Rattle.kinds.specs.Kinds.{parameter}
 use Rattle.rules.specs.Rules.{thresholdTrigger}

@@ -1,5 +1,4 @@
 -- `thresholds::with_off` meets its contract: On and Δ leave room for their sum. Assumes nothing.
-use mathlib.Core.Path.{_≡_, _∙_, refl, sym, ap}
 use Rattle.words.proofs.Locals.{back, back-ok}
 use Rattle.kinds.specs.Kinds.{parameter}
 use Rattle.words.proofs.Ranges.{whole}
