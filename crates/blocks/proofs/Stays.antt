@@ -9,8 +9,8 @@ use lib.Dec.{ltb, eqb}
 use lib.ListN.{getD}
 use lib.IntN.{ℤ, pos, _-ℤ_}
 use Rattle.words.specs.Signed.{wordOf, Between}
-use Rattle.words.proofs.Bounds.{count-between, amount-between}
-use Rattle.words.proofs.Bits.{word-between}
+use Rattle.words.proofs.Bounds.{zero-between, count-between, amount-between}
+use Rattle.words.proofs.Bits.{bit-between, word-between}
 use Rattle.kinds.specs.Kinds.{Kind, Sort, digital, analog, none, elapsed, upTo, In, sixteen, delay, latching, shifting, trigger, choosing, kinds, kindOf, chosen, mostOf, parameter, sortRange, outputRange, rememberedRange}
 use Rattle.kinds.specs.declared.Ticks.{Ticks}
 use Rattle.rules.specs.declared.BlockWords.{BlockWords}
@@ -32,19 +32,12 @@ at-each P (r ∷ rs) d ps (suc kind) = at-each (λ n. P (suc n)) rs (λ n. d (su
 
 -- ---- the words of a digital block
 
-zero-between : (n : ℕ) → Between (pos 0) (pos n) (pos 0)
-zero-between n = count-between (omega arith)
-
-bit-between : (b : Bool) {n : ℕ} → 1 ≤ n → Between (pos 0) (pos n) (wordOf b)
-bit-between true h = count-between h
-bit-between false h = count-between (omega arith)
-
 module _ (k : Kind) (t : Ticks) (is : k .output ≡ digital) where
   digital-out : (q : Bool) → In (outputRange k) (wordOf q)
   digital-out q = rw is (word-between q)
 
   shows-sound : (q : Bool) → Sound k t (shows q)
-  shows-sound q = record { output-is = digital-out q; remembered-is = zero-between _; number-is = zero-between _ }
+  shows-sound q = record { output-is = digital-out q; remembered-is = zero-between; number-is = zero-between }
 
   gives-sound : 1 ≤ k .remembered → (q b : Bool) (n : ℕ) → n ≤ mostOf (k .number) t → Sound k t (gives q b n)
   gives-sound h q b n m = record { output-is = digital-out q; remembered-is = bit-between b h; number-is = count-between m }
@@ -118,7 +111,7 @@ chosen-in p f true true true = f .params-are 3 (omega arith) (λ e. absurd (omeg
 choice-sound : (p : Prepared) → Fit 15 p → (t : Ticks) (en s1 s2 : Bool) → Sound choosing t (multiplexed en s1 s2 (p .params))
 unfolding multiplexed
 choice-sound p f t en s1 s2 =
-    record { output-is = chosen-in p f en s1 s2; remembered-is = zero-between _; number-is = zero-between _ }
+    record { output-is = chosen-in p f en s1 s2; remembered-is = zero-between; number-is = zero-between }
 
 -- ---- all kinds
 
@@ -127,7 +120,7 @@ Keeps kind r =
     (b : List Bool) (a : List ℤ) (p : Prepared) (was : BlockWords) (e : Ticks) → Fit kind p → Sound (kindOf kind) (p .time) was → Sound (kindOf kind) (p .time) (r b a p was e)
 
 idle-sound : (k : Kind) (t : Ticks) → Sound k t (three (pos 0) (pos 0) (pos 0))
-idle-sound k t = record { output-is = out (k .output); remembered-is = zero-between _; number-is = zero-between _ }
+idle-sound k t = record { output-is = out (k .output); remembered-is = zero-between; number-is = zero-between }
   where
     out : (s : Sort) → In (sortRange s) (pos 0)
     out digital = record { between = refl }
@@ -201,7 +194,7 @@ pub record Leaves (k : Kind) (w : BlockWords) : Type 0 where
   pub number-is : k .number ≡ none → w .number ≡ pos 0
 
 leaves-zero : (k : Kind) (o : ℤ) → Leaves k (three o (pos 0) (pos 0))
-leaves-zero k o = record { remembered-is = zero-between _; number-is = λ e. refl }
+leaves-zero k o = record { remembered-is = zero-between; number-is = λ e. refl }
 
 leaves-bit : (k : Kind) → 1 ≤ k .remembered → (q b : Bool) → Leaves k (gives q b 0)
 leaves-bit k h q b = record { remembered-is = bit-between b h; number-is = λ e. refl }

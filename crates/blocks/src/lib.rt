@@ -8,6 +8,7 @@ ghost use Rattle.kinds.specs.Kinds.{kindOf, parameter, allowed};
 ghost use Rattle.kinds.specs.Table.{Lent};
 ghost use Rattle.rules.specs.Rules.{three, bit, onDelay, offDelay, latchingRelay, shiftRegister, thresholdTrigger, compared, multiplexed};
 ghost use Rattle.blocks.specs.Blocks.{timeOf, prepared, wasBit, wasOn, wasNumber, ticks, workedOut, Fit, Sixteen, Scaling};
+use kinds::KindTable;
 use kinds::Ticks;
 use rules::BlockWords;
 
@@ -18,7 +19,7 @@ pub struct Prepared {
 }
 
 // The ticks that a block's parameters set.
-fn time_of(kinds: &[[i32; 18]; 17], kind: usize, params: [i32; 4]) -> Ticks
+fn time_of(kinds: &KindTable, kind: usize, params: [i32; 4]) -> Ticks
     requires { ⌜ Lent (now kinds) kind × (allowed kind params ≡ true) ⌝ }
     ensures { λ r. ⌜ r ≡ timeOf (kindOf kind .times) params ⌝ }
 {
@@ -29,7 +30,7 @@ fn time_of(kinds: &[[i32; 18]; 17], kind: usize, params: [i32; 4]) -> Ticks
 }
 
 // A block's parameters, made ready.
-pub fn prepare(kinds: &[[i32; 18]; 17], kind: usize, params: [i32; 4]) -> Prepared
+pub fn prepare(kinds: &KindTable, kind: usize, params: [i32; 4]) -> Prepared
     requires { ⌜ Lent (now kinds) kind × (allowed kind params ≡ true) ⌝ }
     ensures { λ r. ⌜ r ≡ prepared kind params ⌝ }
 {

@@ -11,7 +11,7 @@ use lib.ListN.{length, getD, List·getD-map}
 use lib.IntN.{pos}
 use Rattle.words.proofs.Bounds.{and-true}
 use Rattle.kinds.specs.Kinds.{Kind, gate, kinds, kindOf, contentLength, rangeAt, scaled, timed, indexed, chosen}
-use Rattle.kinds.specs.Table.{rowOf, kindsTable, cell}
+use Rattle.kinds.specs.Table.{rowOf, kindsTable, cell, rows}
 
 -- what stands at a place that a list has does not depend on the default
 pub any-default {ℓ} : {A : Type ℓ} (l : List A) (k : ℕ) (d e : A) → k < length l → getD l k d ≡ getD l k e
@@ -19,11 +19,11 @@ any-default [] k d e h = absurd (not-suc-le-zero h)
 any-default (a ∷ l) zero d e h = refl
 any-default (a ∷ l) (suc k) d e h = any-default l k d e (le-of-suc-le-suc h)
 
-row-is : (kind : ℕ) → kind < 17 → getD kindsTable kind [] ≡ rowOf (kindOf kind)
+row-is : (kind : ℕ) → kind < rows → getD kindsTable kind [] ≡ rowOf (kindOf kind)
 unfolding kindsTable kindOf kinds
 row-is kind h = any-default kindsTable kind [] (rowOf (gate 0 false 0)) h ∙ List·getD-map rowOf kinds kind (gate 0 false 0)
 
-pub cell-is : (kind column : ℕ) → kind < 17 → getD (getD kindsTable kind []) column (pos 0) ≡ cell kind column
+pub cell-is : (kind column : ℕ) → kind < rows → getD (getD kindsTable kind []) column (pos 0) ≡ cell kind column
 unfolding cell
 cell-is kind column h = rw (row-is kind h)
 

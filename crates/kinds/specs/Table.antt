@@ -45,7 +45,10 @@ kindsTable = map rowOf kinds
 unfoldable pub cell : ℕ → ℕ → ℤ
 cell kind column = getD (rowOf (kindOf kind)) column (pos 0)
 
+abbrev pub rows : ℕ
+rows = 17
+
 -- the table is lent, and has a row for the kind
 pub record Lent (table : List (List ℤ)) (kind : ℕ) : Type 0 where
   pub table-is : table ≡ kindsTable
-  pub has-row : kind < 17
+  pub has-row : kind < rows

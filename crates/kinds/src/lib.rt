@@ -46,9 +46,16 @@ const W: i32 = -32768;
 
 const V: i32 = 32767;
 
+// A row of words for each kind.
+pub type KindTable = [[i32; COLUMNS]; ROWS];
+
+const COLUMNS: usize = 18;
+
+const ROWS: usize = 17;
+
 // By kind, from 0. Digital inputs, analog inputs, what an unused one counts; parameters, settings among them; retentive or not;
 // output analog or not, greatest remembered word, greatest number (-1: Ta); content length; least of four parameters, greatest.
-const KINDS: [[i32; 18]; 17] = [
+const KINDS: KindTable = [
     [0, 0, 0, 0, 0, 0, 0, 0, 0, 2, 0, 0, 0, 0, 0, 0, 0, 0], //  0
     [4, 0, 1, 0, 0, 0, 0, 0, 0, 14, 0, 0, 0, 0, 0, 0, 0, 0], //  1 AND
     [4, 0, 1, 0, 0, 0, 0, 1, 0, 14, 0, 0, 0, 0, 0, 0, 0, 0], //  2 AND edge
@@ -69,7 +76,7 @@ const KINDS: [[i32; 18]; 17] = [
 ];
 
 // The table, to be read once in an open call and lent: a constant array is stored anew at each reading.
-pub fn table() -> [[i32; 18]; 17]
+pub fn table() -> KindTable
     ensures { λ r. ⌜ r ≡ kindsTable ⌝ }
 {
     KINDS
@@ -101,7 +108,7 @@ const LEAST: usize = 10;
 const GREATEST: usize = 14;
 
 // A word of a kind's row.
-fn entry(kinds: &[[i32; 18]; 17], kind: usize, column: usize) -> i32
+fn entry(kinds: &KindTable, kind: usize, column: usize) -> i32
     requires { ⌜ Lent (now kinds) kind × (column < 18) ⌝ }
     ensures { λ r. ⌜ r ≡ cell kind column ⌝ }
 {
@@ -109,7 +116,7 @@ fn entry(kinds: &[[i32; 18]; 17], kind: usize, column: usize) -> i32
 }
 
 // A word of a kind's row as a count.
-fn count(kinds: &[[i32; 18]; 17], kind: usize, column: usize) -> usize
+fn count(kinds: &KindTable, kind: usize, column: usize) -> usize
     requires { ⌜ Lent (now kinds) kind × (column < 18) ⌝ }
     ensures { λ r. ⌜ r ≡ over (cell kind column) ⌝ }
 {
@@ -117,7 +124,7 @@ fn count(kinds: &[[i32; 18]; 17], kind: usize, column: usize) -> usize
 }
 
 // A word of a kind's row as a bit.
-fn flag(kinds: &[[i32; 18]; 17], kind: usize, column: usize) -> bool
+fn flag(kinds: &KindTable, kind: usize, column: usize) -> bool
     requires { ⌜ Lent (now kinds) kind × (column < 18) ⌝ }
     ensures { λ r. ⌜ r ≡ bitOf (cell kind column) ⌝ }
 {
@@ -128,11 +135,11 @@ fn flag(kinds: &[[i32; 18]; 17], kind: usize, column: usize) -> bool
 pub fn is_known(kind: usize) -> bool
     ensures { λ r. ⌜ r ≡ known kind ⌝ }
 {
-    (1 <= kind) & (kind < 17)
+    (1 <= kind) & (kind < ROWS)
 }
 
 // How many digital inputs a block of a kind has.
-pub fn digital_inputs(kinds: &[[i32; 18]; 17], kind: usize) -> usize
+pub fn digital_inputs(kinds: &KindTable, kind: usize) -> usize
     requires { ⌜ Lent (now kinds) kind ⌝ }
     ensures { λ r. ⌜ (r ≡ kindOf kind .digitals) × (r ≤ 4) ⌝ }
 {
@@ -140,7 +147,7 @@ pub fn digital_inputs(kinds: &[[i32; 18]; 17], kind: usize) -> usize
 }
 
 // How many analog inputs.
-pub fn analog_inputs(kinds: &[[i32; 18]; 17], kind: usize) -> usize
+pub fn analog_inputs(kinds: &KindTable, kind: usize) -> usize
     requires { ⌜ Lent (now kinds) kind ⌝ }
     ensures { λ r. ⌜ (r ≡ kindOf kind .analogs) × (r ≤ 2) ⌝ }
 {
@@ -148,7 +155,7 @@ pub fn analog_inputs(kinds: &[[i32; 18]; 17], kind: usize) -> usize
 }
 
 // What an unused input counts.
-pub fn unused_counts(kinds: &[[i32; 18]; 17], kind: usize) -> bool
+pub fn unused_counts(kinds: &KindTable, kind: usize) -> bool
     requires { ⌜ Lent (now kinds) kind ⌝ }
     ensures { λ r. ⌜ r ≡ kindOf kind .unused ⌝ }
 {
@@ -156,7 +163,7 @@ pub fn unused_counts(kinds: &[[i32; 18]; 17], kind: usize) -> bool
 }
 
 // How many parameters.
-pub fn parameters(kinds: &[[i32; 18]; 17], kind: usize) -> usize
+pub fn parameters(kinds: &KindTable, kind: usize) -> usize
     requires { ⌜ Lent (now kinds) kind ⌝ }
     ensures { λ r. ⌜ (r ≡ length (kindOf kind .parameters)) × (r ≤ 4) ⌝ }
 {
@@ -164,7 +171,7 @@ pub fn parameters(kinds: &[[i32; 18]; 17], kind: usize) -> usize
 }
 
 // How many settings follow the timebase.
-pub fn times(kinds: &[[i32; 18]; 17], kind: usize) -> usize
+pub fn times(kinds: &KindTable, kind: usize) -> usize
     requires { ⌜ Lent (now kinds) kind ⌝ }
     ensures { λ r. ⌜ (r ≡ kindOf kind .times) × (r ≤ 1) ⌝ }
 {
@@ -172,7 +179,7 @@ pub fn times(kinds: &[[i32; 18]; 17], kind: usize) -> usize
 }
 
 // Whether a block may be retentive.
-pub fn may_be_retentive(kinds: &[[i32; 18]; 17], kind: usize) -> bool
+pub fn may_be_retentive(kinds: &KindTable, kind: usize) -> bool
     requires { ⌜ Lent (now kinds) kind ⌝ }
     ensures { λ r. ⌜ r ≡ kindOf kind .retentive ⌝ }
 {
@@ -180,7 +187,7 @@ pub fn may_be_retentive(kinds: &[[i32; 18]; 17], kind: usize) -> bool
 }
 
 // Whether the output is a number.
-pub fn is_analog(kinds: &[[i32; 18]; 17], kind: usize) -> bool
+pub fn is_analog(kinds: &KindTable, kind: usize) -> bool
     requires { ⌜ Lent (now kinds) kind ⌝ }
     ensures { λ r. ⌜ r ≡ isAnalog (kindOf kind .output) ⌝ }
 {
@@ -188,7 +195,7 @@ pub fn is_analog(kinds: &[[i32; 18]; 17], kind: usize) -> bool
 }
 
 // How many bytes of content a block field has.
-pub fn content_length(kinds: &[[i32; 18]; 17], kind: usize) -> usize
+pub fn content_length(kinds: &KindTable, kind: usize) -> usize
     requires { ⌜ Lent (now kinds) kind ⌝ }
     ensures { λ r. ⌜ (r ≡ contentLength (kindOf kind)) × (r ≤ 27) ⌝ }
 {
@@ -198,7 +205,7 @@ pub fn content_length(kinds: &[[i32; 18]; 17], kind: usize) -> usize
 // ---- parameters
 
 // Whether a parameter is in its range. One that the kind has not is to be 0.
-pub fn parameter_fits(kinds: &[[i32; 18]; 17], kind: usize, j: usize, x: i32) -> bool
+pub fn parameter_fits(kinds: &KindTable, kind: usize, j: usize, x: i32) -> bool
     requires { ⌜ Lent (now kinds) kind × (j < 4) ⌝ }
     ensures { λ r. ⌜ r ≡ inRange (rangeAt (kindOf kind) j) x ⌝ }
 {
@@ -226,7 +233,7 @@ pub fn setting_fits(base: i32, t: i32) -> bool
 }
 
 // Whether the settings among the parameters are.
-fn settings_fit(kinds: &[[i32; 18]; 17], kind: usize, params: [i32; 4]) -> bool
+fn settings_fit(kinds: &KindTable, kind: usize, params: [i32; 4]) -> bool
     requires { ⌜ Lent (now kinds) kind ⌝ }
     ensures { λ r. ⌜ r ≡ settingsFit (kindOf kind .times) params ⌝ }
 {
@@ -237,7 +244,7 @@ fn settings_fit(kinds: &[[i32; 18]; 17], kind: usize, params: [i32; 4]) -> bool
 }
 
 // Whether the ranges of the table take the parameters.
-fn ranges_fit(kinds: &[[i32; 18]; 17], kind: usize, params: [i32; 4]) -> bool
+fn ranges_fit(kinds: &KindTable, kind: usize, params: [i32; 4]) -> bool
     requires { ⌜ Lent (now kinds) kind ⌝ }
     ensures { λ r. ⌜ r ≡ rangesFit (kindOf kind) params ⌝ }
 {
@@ -249,7 +256,7 @@ fn ranges_fit(kinds: &[[i32; 18]; 17], kind: usize, params: [i32; 4]) -> bool
 }
 
 // Whether a block of a kind may have these parameters.
-pub fn are_allowed(kinds: &[[i32; 18]; 17], kind: usize, params: [i32; 4]) -> bool
+pub fn are_allowed(kinds: &KindTable, kind: usize, params: [i32; 4]) -> bool
     requires { ⌜ Lent (now kinds) kind ⌝ }
     ensures { λ r. ⌜ r ≡ allowed kind params ⌝ }
 {
@@ -262,7 +269,7 @@ pub fn are_allowed(kinds: &[[i32; 18]; 17], kind: usize, params: [i32; 4]) -> bo
 // ---- the words of a block
 
 // Whether a block of a kind may have this output.
-pub fn output_fits(kinds: &[[i32; 18]; 17], kind: usize, x: i32) -> bool
+pub fn output_fits(kinds: &KindTable, kind: usize, x: i32) -> bool
     requires { ⌜ Lent (now kinds) kind ⌝ }
     ensures { λ r. ⌜ r ≡ inRange (outputRange (kindOf kind)) x ⌝ }
 {
@@ -273,7 +280,7 @@ pub fn output_fits(kinds: &[[i32; 18]; 17], kind: usize, x: i32) -> bool
 }
 
 // Whether it may have this remembered word.
-pub fn remembered_fits(kinds: &[[i32; 18]; 17], kind: usize, x: i32) -> bool
+pub fn remembered_fits(kinds: &KindTable, kind: usize, x: i32) -> bool
     requires { ⌜ Lent (now kinds) kind ⌝ }
     ensures { λ r. ⌜ r ≡ inRange (rememberedRange (kindOf kind)) x ⌝ }
 {
@@ -281,7 +288,7 @@ pub fn remembered_fits(kinds: &[[i32; 18]; 17], kind: usize, x: i32) -> bool
 }
 
 // The greatest number that it may have, by the ticks set.
-fn number_most(kinds: &[[i32; 18]; 17], kind: usize, t: Ticks) -> u32
+fn number_most(kinds: &KindTable, kind: usize, t: Ticks) -> u32
     requires { ⌜ Lent (now kinds) kind ⌝ }
     ensures { λ r. ⌜ r ≡ mostOf (kindOf kind .number) t ⌝ }
 {
@@ -293,7 +300,7 @@ fn number_most(kinds: &[[i32; 18]; 17], kind: usize, t: Ticks) -> u32
 }
 
 // Whether it may have this number.
-pub fn number_fits(kinds: &[[i32; 18]; 17], kind: usize, t: Ticks, x: i32) -> bool
+pub fn number_fits(kinds: &KindTable, kind: usize, t: Ticks, x: i32) -> bool
     requires { ⌜ Lent (now kinds) kind ⌝ }
     ensures { λ r. ⌜ r ≡ inRange (numberRange (kindOf kind) t) x ⌝ }
 {

@@ -97,6 +97,9 @@ sides-between {l} {g} {x} h k = record { between = simp (le-leZ l x h, le-leZ x 
 pub count-between : {n m : ℕ} → n ≤ m → Between (pos 0) (pos m) (pos n)
 count-between h = sides-between (omega arith) (omega arith)
 
+pub zero-between : {m : ℕ} → Between (pos 0) (pos m) (pos 0)
+zero-between = count-between (omega arith)
+
 -- at two literals: `between-abs m e (lit≤ tt) (lit≤ tt)`
 pub between-abs : {l g x : ℤ} (m : ℕ) → Between l g x → under l ≤ over l + m → over g ≤ under g + m → natAbs x ≤ m
 between-abs {l} {g} {x} m e h k = let s = between-sides e in abs-le x m (omega arith) (omega arith)

@@ -11,13 +11,13 @@ use borrow.Author.Needs.{needs}
 use Rattle.kinds.proofs.settings_fit.Statement.{statement}
 use Rattle.kinds.proofs.settings_fit.Tie as tie
 
-and-true : (a : Bool) → (a && true) ≡ a
-and-true true = refl
-and-true false = refl
+with-true : (a : Bool) → (a && true) ≡ a
+with-true true = refl
+with-true false = refl
 
 one-time : (n : ℕ) {r : ℕ} (p : List ℤ) → r ≡ n → r ≤ 1 → (r ≡ 0 → ⊥) → settingsFit n p ≡ settingFits (parameter p 0) (parameter p 1)
 one-time zero p e h ne = absurd (ne e)
-one-time (suc zero) p e h ne = and-true _
+one-time (suc zero) p e h ne = with-true _
 one-time (suc (suc n)) p e h ne = absurd (omega arith)
 
 times-requires : tie.Need-times-requires
