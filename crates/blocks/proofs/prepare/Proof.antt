@@ -21,11 +21,11 @@ with-off-requires c κs =
 
 returns : tie.Need-returns
 unfolding prepared
-returns c = rw (eq-eqb _ _ (c .before .if1 .taken), c .before .before .time-of .ensures, c .with-off .ensures)
+returns c = rw (eq-eqb (c .before .before .before .args .kind) 16 (c .before .if1 .taken), c .before .before .time-of .ensures, c .with-off .ensures)
 
 returns-2 : tie.Need-returns-2
 unfolding prepared
-returns-2 c = rw (ne-eqb _ _ (c .if1 .left), c .before .time-of .ensures)
+returns-2 c = rw (ne-eqb (c .before .before .args .kind) 16 (c .if1 .left), c .before .time-of .ensures)
 
 pub prepare-spec : {M : Type 1} → statement M
 prepare-spec = tie.close (tie.spec time-of-requires with-off-requires returns returns-2)
