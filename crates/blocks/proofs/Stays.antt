@@ -3,7 +3,7 @@
 use mathlib.Core.Path.{_≡_, refl}
 use mathlib.Core.Bool.{Bool, true, false, not, cond, _&&_, Bool·beq}
 use mathlib.Core.List.{List, [], _∷_}
-use Prim.Native.Nat.{ℕ, zero, suc, _+_, _*_, _≤_}
+use Prim.Native.Nat.{ℕ, zero, suc, _+_, _*_, _≤_, max}
 use native.Mathlib.Omega.{arith}
 use lib.Dec.{ltb, eqb}
 use lib.ListN.{getD}
@@ -25,6 +25,11 @@ abbrev Each : (ℕ → Rule → Type 0) → List Rule → Type 0
 Each P [] = Unit {0}
 Each P (r ∷ rs) = P 0 r × Each (λ n. P (suc n)) rs
 
+-- a line and those behind it
+infixr 20 _also_
+abbrev _also_ : {A B : Type 0} → A → B → A × B
+a also b = (a, b)
+
 at-each : (P : ℕ → Rule → Type 0) (rs : List Rule) → ((n : ℕ) → P n idle) → Each P rs → (kind : ℕ) → P kind (getD rs kind idle)
 at-each P [] d ps kind = d kind
 at-each P (r ∷ rs) d ps zero = ps .0
@@ -42,37 +47,58 @@ module _ (k : Kind) (t : Ticks) (is : k .output ≡ digital) where
   gives-sound : 1 ≤ k .remembered → (q b : Bool) (n : ℕ) → n ≤ mostOf (k .number) t → Sound k t (gives q b n)
   gives-sound h q b n m = record { output-is = digital-out q; remembered-is = bit-between b h; number-is = count-between m }
 
--- ---- the delays: Ta at most T
+-- ---- what a rule with cases puts together, said once: both laws below follow from it
 
-module _ (n : ℕ) (t : Ticks) where
-  delay-gives : (q b : Bool) (ta : ℕ) → ta ≤ t .0 → Sound (delay n) t (gives q b ta)
-  delay-gives q b ta h = gives-sound (delay n) t refl (omega arith) q b ta h
+-- Q, a remembered bit, and a number that is at most m
+record Made (m : ℕ) (w : BlockWords) : Type 0 where
+  q : Bool
+  held : Bool
+  n : ℕ
+  is : w ≡ gives q held n
+  most : n ≤ m
 
-  on-sound : (trg was : Bool) (ta e : Ticks) → Sound (delay n) t (onDelay trg was ta t e)
-  unfolding onDelay
-  on-sound false was ta e = delay-gives false false 0 (omega arith)
-  on-sound true false ta e = delay-gives (eqb 0 (t .0)) true 0 (omega arith)
-  on-sound true true ta e = delay-gives (eqb (grown ta t e) (t .0)) true (grown ta t e) (omega arith)
+made : {m : ℕ} (q held : Bool) (n : ℕ) → n ≤ m → Made m (gives q held n)
+made q held n h = record { q = q; held = held; n = n; is = refl; most = h }
 
-  fades-sound : (ends : Bool) (ta : ℕ) → ta ≤ t .0 → Sound (delay n) t (cond ends (gives false false 0) (gives true false ta))
-  fades-sound true ta h = delay-gives false false 0 (omega arith)
-  fades-sound false ta h = delay-gives true false ta h
+-- Ta is at most T
+on-made : (trg was : Bool) (ta t e : Ticks) → Made (t .0) (onDelay trg was ta t e)
+unfolding onDelay
+on-made false was ta t e = made false false 0 (omega arith)
+on-made true false ta t e = made (eqb 0 (t .0)) true 0 (omega arith)
+on-made true true ta t e = made (eqb (grown ta t e) (t .0)) true (grown ta t e) (omega arith)
 
-  off-sound : (r trg was q : Bool) (ta e : Ticks) → ta .0 ≤ t .0 → Sound (delay n) t (offDelay r trg was q ta t e)
-  unfolding offDelay
-  off-sound true trg was q ta e h = delay-gives false trg 0 (omega arith)
-  off-sound false true was q ta e h = delay-gives true true 0 (omega arith)
-  off-sound false false true q ta e h = delay-gives (q && ltb 0 (t .0)) false 0 (omega arith)
-  off-sound false false false true ta e h = fades-sound (eqb (grown ta t e) (t .0)) (grown ta t e) (omega arith)
-  off-sound false false false false ta e h = delay-gives false false (ta .0) h
+fades-made : (ends : Bool) {m : ℕ} (ta : ℕ) → ta ≤ m → Made m (cond ends (gives false false 0) (gives true false ta))
+fades-made true ta h = made false false 0 (omega arith)
+fades-made false ta h = made true false ta h
 
--- ---- the memories: a bit, a register of 8 bits
+-- Ta is at most T, or stays as it was
+off-made : (r trg was q : Bool) (ta t e : Ticks) → Made (max (ta .0) (t .0)) (offDelay r trg was q ta t e)
+unfolding offDelay
+off-made true trg was q ta t e = made false trg 0 (omega arith)
+off-made false true was q ta t e = made true true 0 (omega arith)
+off-made false false true q ta t e = made (q && ltb 0 (t .0)) false 0 (omega arith)
+off-made false false false true ta t e = fades-made (eqb (grown ta t e) (t .0)) (grown ta t e) (omega arith)
+off-made false false false false ta t e = made false false (ta .0) (omega arith)
 
-relay-sound : (t : Ticks) (r s q : Bool) → Sound latching t (latchingRelay r s q)
+-- Q alone
+record Shown (w : BlockWords) : Type 0 where
+  q : Bool
+  is : w ≡ shows q
+
+relay-shown : (r s q : Bool) → Shown (latchingRelay r s q)
 unfolding latchingRelay
-relay-sound t true s q = shows-sound latching t refl false
-relay-sound t false true q = shows-sound latching t refl true
-relay-sound t false false q = shows-sound latching t refl q
+relay-shown true s q = record { q = false; is = refl }
+relay-shown false true q = record { q = true; is = refl }
+relay-shown false false q = record { q = q; is = refl }
+
+-- ---- the delays, the relay, the register of 8 bits
+
+delay-sound : (n : ℕ) (t : Ticks) {m : ℕ} {w : BlockWords} → Made m w → m ≤ t .0 → Sound (delay n) t w
+delay-sound n t d h =
+    rw (d .is) (gives-sound (delay n) t refl (omega arith) (d .q) (d .held) (d .n) (omega (arith, d .most)))
+
+relay-sound : (t : Ticks) {w : BlockWords} → Shown w → Sound latching t w
+relay-sound t d = rw (d .is) (shows-sound latching t refl (d .q))
 
 stepped-most : (rises down x : Bool) (r : ℕ) → r ≤ 255 → stepped rises down x r ≤ 255
 stepped-most true down x r h = omega (arith, shifted-below down x r (omega arith))
@@ -128,58 +154,25 @@ idle-sound k t = record { output-is = out (k .output); remembered-is = zero-betw
 
 each-keeps : Each Keeps rules
 unfolding rules kindOf kinds andGate andEdge nandGate nandEdge orGate norGate xorGate notGate
-each-keeps = (
-  λ b a p was e f s. idle-sound _ _,
-  (
-    λ b a p was e f s. shows-sound _ _ refl (allOf b),
-    (
-      λ b a p was e f s. gives-sound _ _ refl (omega arith) (allOf b && not (wasBit was)) (allOf b) 0 (omega arith),
-      (
-        λ b a p was e f s. shows-sound _ _ refl (not (allOf b)),
-        (
-          λ b a p was e f s. gives-sound _ _ refl (omega arith) (not (allOf b) && wasBit was) (allOf b) 0 (omega arith),
-          (
-            λ b a p was e f s. shows-sound _ _ refl (someOf b),
-            (
-              λ b a p was e f s. shows-sound _ _ refl (not (someOf b)),
-              (
-                λ b a p was e f s. shows-sound _ _ refl (not (Bool·beq (bit b 0) (bit b 1))),
-                (
-                  λ b a p was e f s. shows-sound _ _ refl (not (bit b 0)),
-                  (
-                    λ b a p was e f s. on-sound 1 (p .time) (bit b 0) (wasBit was) (ticks (wasNumber was)) e,
-                    (
-                      λ b a p was e f s. off-sound 2 (p .time) (bit b 1) (bit b 0) (wasBit was) (wasOn was) (ticks (wasNumber was)) e (amount-between (s .number-is) .1),
-                      (
-                        λ b a p was e f s. relay-sound (p .time) (bit b 1) (bit b 0) (wasOn was),
-                        (
-                          λ b a p was e f s. shift-sound (p .time) (bit b 0) (bit b 1) (bit b 2) (wasBit was) (wasNumber was) _ (amount-between (s .number-is) .1),
-                          (
-                            λ b a p was e f s. threshold-sound (p .time) (parameter a 0) (p .params) (wasOn was),
-                            (
-                              λ b a p was e f s. compare-sound (p .time) (parameter a 0) (parameter a 1) (p .params) (wasOn was),
-                              (
-                                λ b a p was e f s. choice-sound p f (p .time) (bit b 0) (bit b 1) (bit b 2),
-                                (
-                                  λ b a p was e f s. threshold-sound (p .time) (parameter a 0) (p .params) (wasOn was),
-                                  tt,
-                                ),
-                              ),
-                            ),
-                          ),
-                        ),
-                      ),
-                    ),
-                  ),
-                ),
-              ),
-            ),
-          ),
-        ),
-      ),
-    ),
-  ),
-)
+each-keeps =
+    (λ b a p was e f s. idle-sound _ _)
+    also (λ b a p was e f s. shows-sound _ _ refl (allOf b))
+    also (λ b a p was e f s. gives-sound _ _ refl (omega arith) (allOf b && not (wasBit was)) (allOf b) 0 (omega arith))
+    also (λ b a p was e f s. shows-sound _ _ refl (not (allOf b)))
+    also (λ b a p was e f s. gives-sound _ _ refl (omega arith) (not (allOf b) && wasBit was) (allOf b) 0 (omega arith))
+    also (λ b a p was e f s. shows-sound _ _ refl (someOf b))
+    also (λ b a p was e f s. shows-sound _ _ refl (not (someOf b)))
+    also (λ b a p was e f s. shows-sound _ _ refl (not (Bool·beq (bit b 0) (bit b 1))))
+    also (λ b a p was e f s. shows-sound _ _ refl (not (bit b 0)))
+    also (λ b a p was e f s. delay-sound 1 (p .time) (on-made (bit b 0) (wasBit was) (ticks (wasNumber was)) (p .time) e) (omega arith))
+    also (λ b a p was e f s. delay-sound 2 (p .time) (off-made (bit b 1) (bit b 0) (wasBit was) (wasOn was) (ticks (wasNumber was)) (p .time) e) (omega (arith, amount-between (s .number-is) .1)))
+    also (λ b a p was e f s. relay-sound (p .time) (relay-shown (bit b 1) (bit b 0) (wasOn was)))
+    also (λ b a p was e f s. shift-sound (p .time) (bit b 0) (bit b 1) (bit b 2) (wasBit was) (wasNumber was) _ (amount-between (s .number-is) .1))
+    also (λ b a p was e f s. threshold-sound (p .time) (parameter a 0) (p .params) (wasOn was))
+    also (λ b a p was e f s. compare-sound (p .time) (parameter a 0) (parameter a 1) (p .params) (wasOn was))
+    also (λ b a p was e f s. choice-sound p f (p .time) (bit b 0) (bit b 1) (bit b 2))
+    also (λ b a p was e f s. threshold-sound (p .time) (parameter a 0) (p .params) (wasOn was))
+    also tt
 
 -- a block's words stay in the ranges that a sound record asks
 pub stays-sound : (kind : ℕ) → Keeps kind (workedOut kind)
@@ -209,33 +202,11 @@ elapsed-is e = let z : _≡_ {A = ℕ} 0 1 = cc in omega arith
 upTo-is : (n : ℕ) → upTo n ≡ none → ⊥
 upTo-is n e = let z : _≡_ {A = ℕ} 0 1 = cc in omega arith
 
-module _ (n : ℕ) where
-  delay-leaves : (q b : Bool) (ta : ℕ) → Leaves (delay n) (gives q b ta)
-  delay-leaves q b ta = leaves-number (delay n) (omega arith) elapsed-is q b ta
+delay-leaves : (n : ℕ) {m : ℕ} {w : BlockWords} → Made m w → Leaves (delay n) w
+delay-leaves n d = rw (d .is) (leaves-number (delay n) (omega arith) elapsed-is (d .q) (d .held) (d .n))
 
-  on-leaves : (trg was : Bool) (ta t e : Ticks) → Leaves (delay n) (onDelay trg was ta t e)
-  unfolding onDelay
-  on-leaves false was ta t e = delay-leaves false false 0
-  on-leaves true false ta t e = delay-leaves (eqb 0 (t .0)) true 0
-  on-leaves true true ta t e = delay-leaves (eqb (grown ta t e) (t .0)) true (grown ta t e)
-
-  fades-leaves : (ends : Bool) (ta : ℕ) → Leaves (delay n) (cond ends (gives false false 0) (gives true false ta))
-  fades-leaves true ta = delay-leaves false false 0
-  fades-leaves false ta = delay-leaves true false ta
-
-  off-leaves : (r trg was q : Bool) (ta t e : Ticks) → Leaves (delay n) (offDelay r trg was q ta t e)
-  unfolding offDelay
-  off-leaves true trg was q ta t e = delay-leaves false trg 0
-  off-leaves false true was q ta t e = delay-leaves true true 0
-  off-leaves false false true q ta t e = delay-leaves (q && ltb 0 (t .0)) false 0
-  off-leaves false false false true ta t e = fades-leaves (eqb (grown ta t e) (t .0)) (grown ta t e)
-  off-leaves false false false false ta t e = delay-leaves false false (ta .0)
-
-relay-leaves : (r s q : Bool) → Leaves latching (latchingRelay r s q)
-unfolding latchingRelay
-relay-leaves true s q = leaves-zero latching (pos 0)
-relay-leaves false true q = leaves-zero latching (pos 1)
-relay-leaves false false q = leaves-zero latching (wordOf q)
+relay-leaves : {w : BlockWords} → Shown w → Leaves latching w
+relay-leaves d = rw (d .is) (leaves-zero latching (wordOf (d .q)))
 
 shift-leaves : (x trg down was : Bool) (r j : ℕ) → Leaves shifting (shiftRegister x trg down was r j)
 unfolding shiftRegister
@@ -248,58 +219,25 @@ Uses kind r = (b : List Bool) (a : List ℤ) (p : Prepared) (was : BlockWords) (
 
 each-uses : Each Uses rules
 unfolding rules kindOf kinds andGate andEdge nandGate nandEdge orGate norGate xorGate notGate thresholdTrigger compared multiplexed
-each-uses = (
-  λ b a p was e. leaves-zero _ _,
-  (
-    λ b a p was e. leaves-zero _ _,
-    (
-      λ b a p was e. leaves-bit _ (omega arith) (allOf b && not (wasBit was)) (allOf b),
-      (
-        λ b a p was e. leaves-zero _ _,
-        (
-          λ b a p was e. leaves-bit _ (omega arith) (not (allOf b) && wasBit was) (allOf b),
-          (
-            λ b a p was e. leaves-zero _ _,
-            (
-              λ b a p was e. leaves-zero _ _,
-              (
-                λ b a p was e. leaves-zero _ _,
-                (
-                  λ b a p was e. leaves-zero _ _,
-                  (
-                    λ b a p was e. on-leaves 1 (bit b 0) (wasBit was) (ticks (wasNumber was)) (p .time) e,
-                    (
-                      λ b a p was e. off-leaves 2 (bit b 1) (bit b 0) (wasBit was) (wasOn was) (ticks (wasNumber was)) (p .time) e,
-                      (
-                        λ b a p was e. relay-leaves (bit b 1) (bit b 0) (wasOn was),
-                        (
-                          λ b a p was e. shift-leaves (bit b 0) (bit b 1) (bit b 2) (wasBit was) (wasNumber was) _,
-                          (
-                            λ b a p was e. leaves-zero _ _,
-                            (
-                              λ b a p was e. leaves-zero _ _,
-                              (
-                                λ b a p was e. leaves-zero _ _,
-                                (
-                                  λ b a p was e. leaves-zero _ _,
-                                  tt,
-                                ),
-                              ),
-                            ),
-                          ),
-                        ),
-                      ),
-                    ),
-                  ),
-                ),
-              ),
-            ),
-          ),
-        ),
-      ),
-    ),
-  ),
-)
+each-uses =
+    (λ b a p was e. leaves-zero _ _)
+    also (λ b a p was e. leaves-zero _ _)
+    also (λ b a p was e. leaves-bit _ (omega arith) (allOf b && not (wasBit was)) (allOf b))
+    also (λ b a p was e. leaves-zero _ _)
+    also (λ b a p was e. leaves-bit _ (omega arith) (not (allOf b) && wasBit was) (allOf b))
+    also (λ b a p was e. leaves-zero _ _)
+    also (λ b a p was e. leaves-zero _ _)
+    also (λ b a p was e. leaves-zero _ _)
+    also (λ b a p was e. leaves-zero _ _)
+    also (λ b a p was e. delay-leaves 1 (on-made (bit b 0) (wasBit was) (ticks (wasNumber was)) (p .time) e))
+    also (λ b a p was e. delay-leaves 2 (off-made (bit b 1) (bit b 0) (wasBit was) (wasOn was) (ticks (wasNumber was)) (p .time) e))
+    also (λ b a p was e. relay-leaves (relay-shown (bit b 1) (bit b 0) (wasOn was)))
+    also (λ b a p was e. shift-leaves (bit b 0) (bit b 1) (bit b 2) (wasBit was) (wasNumber was) _)
+    also (λ b a p was e. leaves-zero _ _)
+    also (λ b a p was e. leaves-zero _ _)
+    also (λ b a p was e. leaves-zero _ _)
+    also (λ b a p was e. leaves-zero _ _)
+    also tt
 
 -- the words that a kind has no use for become 0
 pub leaves : (kind : ℕ) → Uses kind (workedOut kind)

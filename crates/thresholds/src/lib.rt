@@ -18,16 +18,16 @@ pub fn actual(input: i32, gain: i32, offset: i32) -> i32
 pub fn triggers(value: i32, on: i32, off: i32, q: bool) -> bool
     ensures { λ r. ⌜ r ≡ triggersOn value on off q ⌝ }
 {
-    if off <= on {
-        if on < value {
-            return true;
-        }
-        if value <= off {
-            return false;
-        }
-        return q;
+    if on < off {
+        return (on <= value) & (value < off);
     }
-    (on <= value) & (value < off)
+    if on < value {
+        return true;
+    }
+    if value <= off {
+        return false;
+    }
+    q
 }
 
 // The words of a block that triggers on a value.
