@@ -1,0 +1,143 @@
+-- Laws of a block's kind, inputs, parameters and index. Assumes nothing.
+use mathlib.Core.Path.{_≡_, refl, sym, ap, _∙_, subst}
+use mathlib.Core.Bool.{Bool, true, false, not, _&&_, _||_, cond}
+use mathlib.Core.List.{List, [], _∷_}
+use Prim.Native.Nat.{ℕ, zero, suc, _+_, _-_, _*_, _≤_, _<_}
+use native.Mathlib.Nat.{le-of-suc-le-suc}
+use native.Mathlib.Omega.{arith}
+use lib.Dec.{eqb, leb, ltb}
+use lib.ListN.{length, getD}
+use lib.IntN.{ℤ, pos}
+use borrow.Author.Tests.{eq-eqb, ne-eqb, le-leb, lt-leb, eqb-true, leb-false, ltb-true, not-false}
+use Rattle.words.specs.Signed.{over, Between}
+use Rattle.kinds.specs.Kinds.{Kind, kinds, kindOf, known, contentLength, parameter, rangesFit, settingsFit, allowed, indexed}
+use Rattle.kinds.specs.Table.{kindsTable, Lent}
+use Rattle.kinds.proofs.Allowed.{param-in}
+use Rattle.kinds.proofs.Rows.{small-kind}
+use Rattle.refusals.specs.Faults.{lowest, _when_}
+use Rattle.refusals.specs.declared.Limits.{Limits}
+use Rattle.connectors.specs.Connectors.{sixOrSeven, anyOf, wrong, later, connectorsAt}
+use Rattle.connectors.proofs.Laws.{and-right, none-wrong, none-later}
+use Rattle.blockfield.specs.BlockField.{kindAt, optionAt, digitalsAt, analogsAt, parametersFrom, parametersAt, signedAt, signedsAt, wrongLength, mostOption, wrongKind, wrongInputs, laterInputs, indexFrom, shiftRegister, blockFaults}
+use Rattle.blockfield.specs.Marked.{fourOf, knownFaults}
+
+-- ---- kinds
+
+pub known-below : (kind : ℕ) → known kind ≡ true → kind < 17
+unfolding known kinds
+known-below kind e = ltb-true kind 17 (and-right (leb 1 kind) (ltb kind 17) e)
+
+pub lent : (table : List (List ℤ)) (kind : ℕ) → table ≡ kindsTable → known kind ≡ true → Lent table kind
+lent table kind t e = record { table-is = t; has-row = known-below kind e }
+
+-- a block of a known kind whose length is not wrong
+pub right-length : (kind size : ℕ) → known kind ≡ true → (known kind && not (eqb size (contentLength (kindOf kind)))) ≡ false → size ≡ contentLength (kindOf kind)
+right-length kind size k e = eqb-true size (contentLength (kindOf kind)) (not-false _ (simp k at e))
+
+-- ---- parameters
+
+module _ (s : List ℕ) where
+  pub signed-in : (count from j : ℕ) → j < count → parameter (signedsAt s from count) j ≡ signedAt s (from + 4 * j)
+  unfolding signedsAt
+  signed-in zero from j h = let z : ⊥ = omega arith in absurd z
+  signed-in (suc count) from zero h = let e : from ≡ from + 4 * 0 = omega arith in ap (signedAt s) e
+  signed-in (suc count) from (suc j) h =
+      let e : from + 4 + 4 * j ≡ from + 4 * suc j = omega arith in
+      signed-in count (from + 4) j (le-of-suc-le-suc h) ∙ ap (signedAt s) e
+
+  pub signed-out : (count from j : ℕ) → count ≤ j → parameter (signedsAt s from count) j ≡ pos 0
+  unfolding signedsAt
+  signed-out zero from j h = refl
+  signed-out (suc count) from zero h = let z : ⊥ = omega arith in absurd z
+  signed-out (suc count) from (suc j) h = signed-out count (from + 4) j (le-of-suc-le-suc h)
+
+settings-four : (n : ℕ) (p : List ℤ) → n ≤ 1 → settingsFit n (fourOf p) ≡ settingsFit n p
+settings-four zero p h = refl
+settings-four (suc zero) p h = refl
+settings-four (suc (suc n)) p h = let z : ⊥ = omega arith in absurd z
+
+-- a parameter that a block has not is 0
+pub allowed-four : (kind : ℕ) (p : List ℤ) → allowed kind (fourOf p) ≡ allowed kind p
+unfolding allowed
+allowed-four kind p =
+    ap (λ (b : Bool). rangesFit (kindOf kind) p && b) (settings-four (kindOf kind .times) p (small-kind kind .times))
+
+-- ---- a shift register's index
+
+pub index-from : (at : ℕ) → indexFrom at ≡ at + 14
+unfolding kindOf kinds
+index-from at = omega arith
+
+register-has : length (kindOf shiftRegister .parameters) ≡ 2
+unfolding kindOf kinds indexed
+register-has = refl
+
+pub index-range : (s : List ℕ) (at kind : ℕ) → kind ≡ shiftRegister → allowed kind (parametersAt s at (kindOf kind)) ≡ true → Between (pos 1) (pos 4) (signedAt s (indexFrom at))
+unfolding kindOf kinds indexed signedsAt
+index-range s at kind e a =
+    let a′ : allowed 12 (parametersAt s at (kindOf 12)) ≡ true = subst (λ (k : ℕ). allowed k (parametersAt s at (kindOf k)) ≡ true) e a in
+    param-in 12 (parametersAt s at (kindOf 12)) a′ 0 (omega arith)
+
+-- a shift register without a fault lies within the bytes
+pub register-there : (s : List ℕ) (at kind : ℕ) → kind ≡ shiftRegister → (at + 3) + contentLength (kindOf kind) ≤ length s → indexFrom at + 4 ≤ length s
+unfolding kindOf kinds indexed
+register-there s at kind e h =
+    let h′ : (at + 3) + contentLength (kindOf 12) ≤ length s = subst (λ (k : ℕ). (at + 3) + contentLength (kindOf k) ≤ length s) e h in
+    omega arith
+
+-- ---- a block of a known kind
+
+-- whether 6, 7 and not 8 hold for it
+module _ (limits : Limits) (s : List ℕ) (at kind own n : ℕ) (sorts : List Bool) where
+  abbrev pub wrongAt : Bool
+  wrongAt = wrongInputs limits own n sorts (digitalsAt s at (kindOf kind)) (analogsAt s at (kindOf kind))
+
+  abbrev pub laterAt : Bool
+  laterAt = laterInputs own (digitalsAt s at (kindOf kind)) (analogsAt s at (kindOf kind))
+
+  abbrev pub allowedAt : Bool
+  allowedAt = allowed kind (parametersAt s at (kindOf kind))
+
+-- what is left to judge where length, count, kind and option are right
+abbrev pub restOf : Bool → Bool → Bool → Bool → ℕ
+restOf w l d u = cond w 6 (cond l 7 (cond (not d) 8 (cond u 10 0)))
+
+pub first-six : (w l d : Bool) → (sixOrSeven w l ≡ 0 → ⊥) → sixOrSeven w l ≡ restOf w l d false
+unfolding sixOrSeven
+first-six true l d nz = refl
+first-six false true d nz = refl
+first-six false false d nz = absurd (nz refl)
+
+pub none-at-all : (w l d : Bool) → sixOrSeven w l ≡ 0 → d ≡ true → 0 ≡ restOf w l d false
+none-at-all w l d z e = simp (none-wrong w l z, none-later w l z, e)
+
+pub eight : (w l d : Bool) → sixOrSeven w l ≡ 0 → d ≡ false → 8 ≡ restOf w l d false
+eight w l d z e = simp (none-wrong w l z, none-later w l z, e)
+
+first-three : (w l d u : Bool) (k : ℕ) → k ≡ restOf w l d false → (k ≡ 0 → ⊥) → k ≡ restOf w l d u
+first-three true l d u k q nz = q
+first-three false true d u k q nz = q
+first-three false false true u k q nz = absurd (nz q)
+first-three false false false u k q nz = q
+
+-- none of the first three holds
+none-wrongly : (w l d : Bool) (k : ℕ) → k ≡ restOf w l d false → k ≡ 0 → (w ≡ false) × (l ≡ false) × (d ≡ true)
+none-wrongly true l d k q z = let x : ⊥ = omega arith in absurd x
+none-wrongly false true d k q z = let x : ⊥ = omega arith in absurd x
+none-wrongly false false true k q z = (refl, refl, refl)
+none-wrongly false false false k q z = let x : ⊥ = omega arith in absurd x
+
+module _ (limits : Limits) (s : List ℕ) (at kind own n : ℕ) (sorts : List Bool) (fault : ℕ) (is-fault : fault ≡ lowest (knownFaults limits s at kind own n sorts)) where
+  pub known-fault : (u : Bool) → (fault ≡ 0 → ⊥) → fault ≡ restOf (wrongAt limits s at kind own n sorts) (laterAt limits s at kind own n sorts) (allowedAt limits s at kind own n sorts) u
+  unfolding knownFaults
+  known-fault u nz = first-three (wrongAt limits s at kind own n sorts) (laterAt limits s at kind own n sorts) (allowedAt limits s at kind own n sorts) u fault is-fault nz
+
+  pub known-none : fault ≡ 0 → (wrongAt limits s at kind own n sorts ≡ false) × (laterAt limits s at kind own n sorts ≡ false) × (allowedAt limits s at kind own n sorts ≡ true)
+  unfolding knownFaults
+  known-none z = none-wrongly (wrongAt limits s at kind own n sorts) (laterAt limits s at kind own n sorts) (allowedAt limits s at kind own n sorts) fault is-fault z
+
+-- a block whose length, count, kind and option are right
+pub known-rest : (limits : Limits) (s : List ℕ) (at size stage n count : ℕ) (sorts : List Bool) (used : Bool) (kind : ℕ) → kind ≡ kindAt s at → (stage ≡ 0 → ⊥) → (stage ≡ 3 → ⊥) → (size ≡ 0 → ⊥) → size ≡ contentLength (kindOf kind) → count < n → known kind ≡ true → ltb (mostOption (kindOf kind)) (optionAt s at) ≡ false → restOf (wrongAt limits s at kind (count + 1) n sorts) (laterAt limits s at kind (count + 1) n sorts) (allowedAt limits s at kind (count + 1) n sorts) (eqb kind shiftRegister && used) ≡ lowest (blockFaults limits s at size stage n count sorts used)
+unfolding blockFaults wrongLength wrongKind
+known-rest limits s at size stage n count sorts used kind q a b z w c k o =
+    simp (sym q, ne-eqb _ _ a, ne-eqb _ _ b, ne-eqb _ _ z, eq-eqb _ _ w, lt-leb _ _ c, k, o)

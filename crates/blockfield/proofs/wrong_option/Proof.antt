@@ -1,0 +1,19 @@
+use mathlib.Core.Path.{_≡_, sym, _∙_}
+use borrow.Author.Needs.{needs}
+use Rattle.blockfield.proofs.wrong_option.Statement.{statement}
+use Rattle.blockfield.proofs.wrong_option.Tie as tie
+use Rattle.blockfield.proofs.wrong_option.Reads as reads
+use Rattle.blockfield.proofs.wrong_option.Lts as lts
+use Rattle.kinds.proofs.may_be_retentive.Reads as may-be-retentive-reads
+
+may-be-retentive-requires : tie.Need-may-be-retentive-requires
+may-be-retentive-requires c κs = search needs
+
+returns : tie.Need-returns
+returns c = simp (sym (c .before .may-be-retentive .ensures) ∙ c .if1 .taken)
+
+returns-2 : tie.Need-returns-2
+returns-2 c = simp (sym (c .before .may-be-retentive .ensures) ∙ c .if1 .left)
+
+pub wrong-option-spec : {M : Type 1} → statement M
+wrong-option-spec = tie.close (tie.spec may-be-retentive-requires returns returns-2)

@@ -1,0 +1,2 @@
+pub mod BlockField
+pub mod Marked

@@ -1,0 +1,1 @@
+// What a circuit is, and the judging of its bytes.

@@ -1,0 +1,21 @@
+use Rattle.connectors.proofs.Laws.{takes-bits}
+use borrow.Author.Needs.{needs}
+use Rattle.connectors.proofs.takes_class.Statement.{statement}
+use Rattle.connectors.proofs.takes_class.Tie as tie
+use Rattle.connectors.proofs.takes_class.Reads as reads
+use Rattle.connectors.proofs.takes_class.Lts as lts
+
+mul-result : tie.Need-mul-result
+mul-result c = search needs
+
+add-result : tie.Need-add-result
+add-result c = search needs
+
+shr-result : tie.Need-shr-result
+shr-result c = search needs
+
+returns : tie.Need-returns
+returns c = takes-bits (c .args .place) (c .args .class) (c .pre .0) (c .pre .1)
+
+pub takes-class-spec : {M : Type 1} → statement M
+takes-class-spec = tie.close (tie.spec mul-result add-result shr-result returns)

@@ -1,0 +1,19 @@
+-- What the functions below the judging of a connector answer. Not part of what a reader has to believe.
+use Prim.Native.Nat.{ℕ}
+use mathlib.Core.Bool.{Bool, Bool·beq, false, not, _&&_, _||_, cond}
+use mathlib.Core.List.{List, _∷_}
+use lib.Dec.{leb, ltb, eqb}
+use lib.ListN.{getD}
+use Rattle.connectors.specs.Connectors.{sixOrSeven, namesAnalog, unknownRow}
+
+-- a connector of a right class that names a block
+unfoldable pub namedNumber : ℕ → ℕ → ℕ → List Bool → ℕ → ℕ → ℕ
+namedNumber place own n sorts class number =
+    sixOrSeven
+    ((ltb number 1 || ltb n number)
+    || (ltb number own && (not (eqb place unknownRow) && not (Bool·beq (getD (false ∷ sorts) number false) (namesAnalog class)))))
+    (leb own number)
+
+-- the lower of two refusal numbers; 0 is none
+unfoldable pub lower : ℕ → ℕ → ℕ
+lower a b = cond (eqb a 0) b (cond (eqb b 0) a (cond (ltb a b) a b))

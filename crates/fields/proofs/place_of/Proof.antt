@@ -1,0 +1,23 @@
+use mathlib.Core.Path.{_≡_, sym, ap}
+use native.Mathlib.Omega.{arith}
+use Rattle.fields.proofs.Laws.{place-bits, place-above, place-below}
+use borrow.Author.Needs.{needs}
+use Rattle.fields.proofs.place_of.Statement.{statement}
+use Rattle.fields.proofs.place_of.Tie as tie
+use Rattle.fields.proofs.place_of.Reads as reads
+use Rattle.fields.proofs.place_of.Lts as lts
+
+returns : tie.Need-returns
+returns c = (sym (place-above (c .before .args .class) (c .if1 .taken)), omega arith)
+
+mul-result : tie.Need-mul-result
+mul-result c = search needs
+
+shr-result : tie.Need-shr-result
+shr-result c = search needs
+
+returns-2 : tie.Need-returns-2
+returns-2 c = let e = place-bits (c .before .args .class) (omega (arith, c .if1 .left)) in (e, omega (arith, e, place-below (c .before .args .class)))
+
+pub place-of-spec : {M : Type 1} → statement M
+place-of-spec = tie.close (tie.spec returns mul-result shr-result returns-2)

@@ -1,0 +1,127 @@
+use mathlib.Core.Path.{_≡_, refl, sym, _∙_, ap, ap₂}
+use mathlib.Core.Bool.{Bool, true, false}
+use Prim.Native.Nat.{ℕ, _+_, _<_}
+use native.Mathlib.Omega.{arith}
+use lib.Dec.{eqb, ltb}
+use lib.ListN.{getD}
+use borrow.Author.Tests.{lt-ltb, le-ltb, eq-eqb, ne-eqb}
+use Rattle.fields.specs.Fields.{unknown, rowFaults, classAt, numberIn}
+use Rattle.fields.specs.Marks.{mark}
+use Rattle.fields.proofs.Laws.{row-wrong, row-right}
+use borrow.Author.Needs.{needs}
+use Rattle.fields.proofs.row_number.Statement.{statement}
+use Rattle.fields.proofs.row_number.Tie as tie
+use Rattle.fields.proofs.row_number.Reads as reads
+use Rattle.fields.proofs.row_number.Lts as lts
+use Rattle.connectors.proofs.connector.Reads as connector-reads
+use Rattle.fields.proofs.is_unknown.Reads as is-unknown-reads
+use Rattle.fields.proofs.mark_of.Reads as mark-of-reads
+use Rattle.fields.proofs.place_of.Reads as place-of-reads
+use Rattle.words.proofs.byte_at.Reads as byte-at-reads
+
+returns : tie.Need-returns
+unfolding rowFaults
+returns c = simp (eq-eqb _ _ (c .if1 .taken))
+
+returns-2 : tie.Need-returns-2
+unfolding rowFaults
+returns-2 c = simp (ne-eqb _ _ (c .before .if1 .left), ne-eqb _ _ (c .if2 .taken))
+
+returns-3 : tie.Need-returns-3
+unfolding rowFaults
+returns-3 c = simp (ne-eqb _ _ (c .before .before .if1 .left), eq-eqb _ _ (c .before .if2 .left), lt-ltb _ _ (c .if3 .taken))
+
+add-byte-at : tie.Need-add-byte-at
+add-byte-at c = search needs
+
+byte-at-requires : tie.Need-byte-at-requires
+byte-at-requires c κs = search needs
+
+place-of-requires : tie.Need-place-of-requires
+place-of-requires c κs = search needs
+
+add-connector : tie.Need-add-connector
+add-connector c = search needs
+
+add-connector-2 : tie.Need-add-connector-2
+add-connector-2 c = search needs
+
+connector-requires : tie.Need-connector-requires
+connector-requires c κs = search needs
+
+returns-4 : tie.Need-returns-4
+unfolding rowFaults
+returns-4 c =
+    let a = c .before .before .before .before .before .before .before .before .args in
+    let own : a .n < a .blocks + 1 = omega arith in
+    let w = row-wrong (a .limits) (a .bytes .now) (a .at) (a .n) (a .blocks + 1) (a .sorts .now) _ _ _ (c .before .before .before .byte-at .ensures .0) (c .before .before .place-of .ensures .0) (c .before .connector .ensures) own (c .if4 .taken) in
+    simp (ne-eqb _ _ (c .before .before .before .before .before .before .if1 .left), eq-eqb _ _ (c .before .before .before .before .before .if2 .left), le-ltb _ _ (c .before .before .before .before .if3 .left), w)
+
+add-byte-at-2 : tie.Need-add-byte-at-2
+add-byte-at-2 c = search needs
+
+byte-at-requires-2 : tie.Need-byte-at-requires-2
+byte-at-requires-2 c κs = search needs
+
+is-unknown-requires : tie.Need-is-unknown-requires
+is-unknown-requires c κs = search needs
+
+returns-5 : tie.Need-returns-5
+unfolding rowFaults
+returns-5 c =
+    let a = c .before .before .before .before .before .before .before .before .before .before .before .args in
+    let w = row-right (a .limits) (a .bytes .now) (a .at) (a .n) (a .blocks + 1) (a .sorts .now) _ _ _ (c .before .before .before .before .before .before .byte-at .ensures .0) (c .before .before .before .before .before .place-of .ensures .0) (c .before .before .before .before .connector .ensures) (c .before .before .before .if4 .left) in
+    let u : unknown (a .limits) (classAt (a .bytes .now) (a .at)) (numberIn (a .bytes .now) (a .at)) ≡ true =
+    ap₂ (unknown (a .limits)) (sym (c .before .before .before .before .before .before .byte-at .ensures .0)) (sym (c .before .before .byte-at2 .ensures .0)) ∙ sym (c .before .is-unknown .ensures) ∙ c .if5 .taken in
+    simp (ne-eqb _ _ (c .before .before .before .before .before .before .before .before .before .if1 .left), eq-eqb _ _ (c .before .before .before .before .before .before .before .before .if2 .left), le-ltb _ _ (c .before .before .before .before .before .before .before .if3 .left), w, u)
+
+mark-of-requires : tie.Need-mark-of-requires
+mark-of-requires c κs = (c .before .before .before .before .before .before .before .before .before .before .before .pre .1, sym (c .before .is-unknown .ensures) ∙ c .if5 .left)
+
+element-copy-out-if6 : tie.Need-element-copy-out-if6
+element-copy-out-if6 c = search needs
+
+returns-6 : tie.Need-returns-6
+unfolding rowFaults
+returns-6 c =
+    let a = c .before .before .before .before .before .before .before .before .before .before .before .before .before .before .args in
+    let w = row-right (a .limits) (a .bytes .now) (a .at) (a .n) (a .blocks + 1) (a .sorts .now) _ _ _ (c .before .before .before .before .before .before .before .before .before .byte-at .ensures .0) (c .before .before .before .before .before .before .before .before .place-of .ensures .0) (c .before .before .before .before .before .before .before .connector .ensures) (c .before .before .before .before .before .before .if4 .left) in
+    let u : unknown (a .limits) (classAt (a .bytes .now) (a .at)) (numberIn (a .bytes .now) (a .at)) ≡ false =
+    ap₂ (unknown (a .limits)) (sym (c .before .before .before .before .before .before .before .before .before .byte-at .ensures .0)) (sym (c .before .before .before .before .before .byte-at2 .ensures .0)) ∙ sym (c .before .before .before .before .is-unknown .ensures) ∙ c .before .before .before .if5 .left in
+    let m : getD (a .used .now) (mark (classAt (a .bytes .now) (a .at)) (numberIn (a .bytes .now) (a .at))) false ≡ true =
+    ap (λ (i : ℕ). getD (a .used .now) i false) (sym (c .before .before .mark-of .ensures .0 ∙ ap₂ mark (c .before .before .before .before .before .before .before .before .before .byte-at .ensures .0) (c .before .before .before .before .before .byte-at2 .ensures .0))) ∙ c .if6 .taken in
+    simp (ne-eqb _ _ (c .before .before .before .before .before .before .before .before .before .before .before .before .if1 .left), eq-eqb _ _ (c .before .before .before .before .before .before .before .before .before .before .before .if2 .left), le-ltb _ _ (c .before .before .before .before .before .before .before .before .before .before .if3 .left), w, u, m)
+
+returns-7 : tie.Need-returns-7
+unfolding rowFaults
+returns-7 c =
+    let a = c .before .before .before .before .before .before .before .before .before .before .before .before .before .before .args in
+    let w = row-right (a .limits) (a .bytes .now) (a .at) (a .n) (a .blocks + 1) (a .sorts .now) _ _ _ (c .before .before .before .before .before .before .before .before .before .byte-at .ensures .0) (c .before .before .before .before .before .before .before .before .place-of .ensures .0) (c .before .before .before .before .before .before .before .connector .ensures) (c .before .before .before .before .before .before .if4 .left) in
+    let u : unknown (a .limits) (classAt (a .bytes .now) (a .at)) (numberIn (a .bytes .now) (a .at)) ≡ false =
+    ap₂ (unknown (a .limits)) (sym (c .before .before .before .before .before .before .before .before .before .byte-at .ensures .0)) (sym (c .before .before .before .before .before .byte-at2 .ensures .0)) ∙ sym (c .before .before .before .before .is-unknown .ensures) ∙ c .before .before .before .if5 .left in
+    let m : getD (a .used .now) (mark (classAt (a .bytes .now) (a .at)) (numberIn (a .bytes .now) (a .at))) false ≡ false =
+    ap (λ (i : ℕ). getD (a .used .now) i false) (sym (c .before .before .mark-of .ensures .0 ∙ ap₂ mark (c .before .before .before .before .before .before .before .before .before .byte-at .ensures .0) (c .before .before .before .before .before .byte-at2 .ensures .0))) ∙ c .if6 .left in
+    simp (ne-eqb _ _ (c .before .before .before .before .before .before .before .before .before .before .before .before .if1 .left), eq-eqb _ _ (c .before .before .before .before .before .before .before .before .before .before .before .if2 .left), le-ltb _ _ (c .before .before .before .before .before .before .before .before .before .before .if3 .left), w, u, m)
+
+pub row-number-spec : {M : Type 1} → statement M
+row-number-spec =
+    tie.close
+    (tie.spec
+    returns
+    returns-2
+    returns-3
+    add-byte-at
+    byte-at-requires
+    place-of-requires
+    add-connector
+    add-connector-2
+    connector-requires
+    returns-4
+    add-byte-at-2
+    byte-at-requires-2
+    is-unknown-requires
+    returns-5
+    mark-of-requires
+    element-copy-out-if6
+    returns-6
+    returns-7)

@@ -1,0 +1,161 @@
+// The lowest number that holds for a header, a label, a row, the end field; 0 where none does.
+ghost use mathlib.Core.Path.{_≡_};
+ghost use mathlib.Core.Bool.{false};
+ghost use Prim.Native.Nat.{_+_, _≤_, _<_};
+ghost use lib.ListN.{length, getD};
+ghost use Rattle.refusals.specs.Faults.{lowest};
+ghost use Rattle.refusals.specs.Limited.{Modest};
+ghost use Rattle.fields.specs.Fields.{headerFaults, labelFaults, limitOf, placeOf, unknown, classAt, numberIn, rowFaults, endFaults};
+ghost use Rattle.fields.specs.Marks.{mark};
+use refusals::Limits;
+
+// The stages of a circuit: the header is awaited; the last field was a block.
+const OPENING: u8 = 0;
+
+const AFTER_BLOCK: u8 = 2;
+
+// The number of a header.
+pub fn header_number(limits: Limits, bytes: &[u8], at: usize, size: usize, stage: u8) -> u8
+    requires { ⌜ (at + 3) + size ≤ length (now bytes) ⌝ }
+    ensures { λ r. ⌜ r ≡ lowest (headerFaults limits (now (bytes .entry)) at size stage) ⌝ }
+{
+    if stage != OPENING {
+        return 2;
+    }
+    if size != 3 {
+        return 2;
+    }
+    let version = words::byte_at(bytes, at + 3);
+    if version != 1 {
+        return 3;
+    }
+    let n = words::two_at(bytes, at + 4);
+    if limits.blocks < n {
+        return 4;
+    }
+    0
+}
+
+// The number of a label.
+pub fn label_number(size: usize, stage: u8) -> u8
+    ensures { λ r. ⌜ r ≡ lowest (labelFaults size stage) ⌝ }
+{
+    if stage != AFTER_BLOCK {
+        return 2;
+    }
+    if 16 < size {
+        return 2;
+    }
+    0
+}
+
+// The number of the end field.
+pub fn end_number(size: usize, stage: u8, n: usize, blocks: usize) -> u8
+    ensures { λ r. ⌜ r ≡ lowest (endFaults size stage n blocks) ⌝ }
+{
+    if stage == OPENING {
+        return 2;
+    }
+    if size != 0 {
+        return 2;
+    }
+    if blocks < n {
+        return 4;
+    }
+    0
+}
+
+// ---- destinations
+
+// The greatest number of a destination class.
+fn limit_of(limits: Limits, class: usize) -> usize
+    ensures { λ r. ⌜ r ≡ limitOf limits class ⌝ }
+{
+    if class == 1 {
+        return limits.q;
+    }
+    if class == 2 {
+        return limits.m;
+    }
+    if class == 3 {
+        return limits.aq;
+    }
+    if class == 4 {
+        return limits.am;
+    }
+    0
+}
+
+// Three bits for each destination class 0 to 4: where its connector stands.
+const PLACES: usize = 13972;
+
+// Where the connector of a destination class stands.
+fn place_of(class: usize) -> usize
+    ensures { λ r. ⌜ (r ≡ placeOf class) × (r < 5) ⌝ }
+{
+    if 4 < class {
+        return 4;
+    }
+    (PLACES >> (class * 3)) % 8
+}
+
+// Whether there is no such destination.
+fn is_unknown(limits: Limits, class: usize, number: usize) -> bool
+    ensures { λ r. ⌜ r ≡ unknown limits class number ⌝ }
+{
+    if number == 0 {
+        return true;
+    }
+    limit_of(limits, class) < number
+}
+
+// Seven bits for each destination class 0 to 4: what stands before its marks.
+const BASES: usize = 24872550400;
+
+// The mark of a destination.
+pub fn mark_of(limits: Limits, class: usize, number: usize) -> usize
+    requires { ⌜ Modest limits × (unknown limits class number ≡ false) ⌝ }
+    ensures { λ r. ⌜ (r ≡ mark class number) × (r < 156) ⌝ }
+{
+    (BASES >> (class * 7)) % 128 + (number - 1)
+}
+
+// The number of a row. The blocks before it, and which of them are analog; the marks of the destinations used.
+pub fn row_number(
+    limits: Limits,
+    bytes: &[u8],
+    at: usize,
+    size: usize,
+    stage: u8,
+    n: usize,
+    blocks: usize,
+    sorts: &[bool; 400],
+    used: &[bool; 156],
+) -> u8
+    requires { ⌜ ((at + 3) + size ≤ length (now bytes)) × Modest limits × (n ≤ 400) × (blocks ≤ n) ⌝ }
+    ensures { λ r. ⌜ r ≡ lowest (rowFaults limits (now (bytes .entry)) at size stage n blocks (now (sorts .entry)) (getD (now (used .entry)) (mark (classAt (now (bytes .entry)) at) (numberIn (now (bytes .entry)) at)) false)) ⌝ }
+{
+    if stage == OPENING {
+        return 2;
+    }
+    if size != 5 {
+        return 2;
+    }
+    if blocks < n {
+        return 4;
+    }
+    let class = words::byte_at(bytes, at + 3);
+    let place = place_of(class);
+    if connectors::connector(limits, bytes, at + 5, place, blocks + 1, n, sorts) != 0 {
+        return 6;
+    }
+    let number = words::byte_at(bytes, at + 4);
+    if is_unknown(limits, class, number) {
+        return 9;
+    }
+    let mark = mark_of(limits, class, number);
+    if used[mark] {
+        return 9;
+    }
+    0
+}

@@ -1,0 +1,1 @@
+// What a circuit is, and the bytes that it has: definitions and theorems alone.

@@ -1,0 +1,27 @@
+-- Document 01, "Refusal numbers and their order": "The first field with a fault is named, with the lowest number that holds for it".
+use Prim.Native.Nat.{ℕ}
+use mathlib.Core.Bool.{Bool, true, cond, _&&_}
+use mathlib.Core.List.{List, [], _∷_}
+use lib.Dec.{leb}
+
+-- a refusal number, and whether it holds
+pub record Fault : Type 0 where
+  pub number : ℕ
+  pub holds : Bool
+
+infix 70 _when_
+abbrev pub _when_ : ℕ → Bool → Fault
+k when b = record { number = k; holds = b }
+
+-- the first that holds, and 0 where none does: the lowest, as the numbers of a field's list rise (`least-of-rising`)
+abbrev pub lowest : List Fault → ℕ
+lowest [] = 0
+lowest (f ∷ l) = cond (f .holds) (f .number) (lowest l)
+
+-- no number of a list is below one before it
+abbrev pub risesFrom : ℕ → List Fault → Bool
+risesFrom k [] = true
+risesFrom k (f ∷ l) = leb k (f .number) && risesFrom (f .number) l
+
+abbrev pub rises : List Fault → Bool
+rises l = risesFrom 1 l

@@ -1,0 +1,4 @@
+pub mod Faults
+pub mod Stages
+pub mod Limited
+pub mod Answers

@@ -1,0 +1,59 @@
+// What every judging has in common: limits, and the answer of four numbers.
+ghost use mathlib.Core.Path.{_≡_};
+ghost use Rattle.refusals.specs.Limited.{ours as oursOf, Modest};
+ghost use Rattle.refusals.specs.Answers.{refusedAt, acceptedWith};
+
+// The most blocks, and the greatest number of Q, AQ, M and AM.
+pub struct Limits {
+    pub blocks: usize,
+    pub q: usize,
+    pub aq: usize,
+    pub m: usize,
+    pub am: usize,
+}
+
+// Refusal number or 0, place, first, second.
+#[repr(C)]
+pub struct Answer {
+    pub number: usize,
+    pub place: usize,
+    pub first: usize,
+    pub second: usize,
+}
+
+// Our limits.
+pub fn ours() -> Limits
+    ensures { λ r. ⌜ r ≡ oursOf ⌝ }
+{
+    Limits {
+        blocks: 400,
+        q: 20,
+        aq: 8,
+        m: 64,
+        am: 64,
+    }
+}
+
+// The answer of a refusal.
+pub fn refused_at(number: usize, place: usize) -> Answer
+    ensures { λ r. ⌜ r ≡ refusedAt number place ⌝ }
+{
+    Answer {
+        number,
+        place,
+        first: 0,
+        second: 0,
+    }
+}
+
+// The answer of a call that is accepted.
+pub fn accepted_with(first: usize, second: usize) -> Answer
+    ensures { λ r. ⌜ r ≡ acceptedWith first second ⌝ }
+{
+    Answer {
+        number: 0,
+        place: 0,
+        first,
+        second,
+    }
+}
