@@ -1,94 +1,20 @@
--- Document 01, "Circuit bytes" and "Refusal numbers and their order": every byte string gets a refusal, or the circuit that it is.
+-- Document 01, "Refusal numbers and their order": every byte string gets a refusal, or the circuit that it is.
 use Prim.Native.Nat.{ℕ, zero, suc, _+_}
-use mathlib.Core.Bool.{Bool, true, false, _&&_, _||_, cond}
-use mathlib.Core.List.{List, [], _∷_, _++_, map}
-use mathlib.Core.Option.{Option, none, some}
+use mathlib.Core.Bool.{Bool, true, false, _||_, cond}
+use mathlib.Core.List.{List, [], _∷_}
 use lib.Dec.{ltb, eqb}
-use lib.ListN.{length, getD, take, drop}
-use lib.IntN.{ℤ}
-use lib.Signed.{leZ}
-use Rattle.words.specs.Bytes.{numberAt}
-use Rattle.kinds.specs.Kinds.{kindOf, isAnalog, parameter}
+use lib.ListN.{length, getD}
 use Rattle.refusals.specs.Faults.{Fault, lowest, _when_}
-use Rattle.refusals.specs.Stages.{opening, amongBlocks, afterBlock, amongRows, ended}
+use Rattle.refusals.specs.Stages.{ended}
 use Rattle.refusals.specs.Limited.{ours}
 use Rattle.refusals.specs.Answers.{refusedAt, acceptedWith}
 use Rattle.refusals.specs.declared.Limits.{Limits}
 use Rattle.refusals.specs.declared.Answer.{Answer}
-use Rattle.connectors.specs.Connectors.{Connector, connectorAt}
-use Rattle.blockfield.specs.BlockField.{kindAt, optionAt, digitalsAt, analogsAt, parametersAt, signedAt, shiftRegister, indexFrom, blockFaults}
+use Rattle.blockfield.specs.BlockField.{signedAt, indexFrom, blockFaults}
 use Rattle.fields.specs.Fields.{headerFaults, labelFaults, rowFaults, endFaults, classAt, numberIn}
+use Rattle.decoding.specs.Decoded.{Circuit, State, nothing, circuitOf, sortsOf, indexUsed, destinationUsed, sizeAt, nextAt, headerTaken, blockTaken, labelTaken, rowTaken, endTaken}
 
--- ---- what a circuit is made of
-
-pub record Block : Type 0 where
-  pub kind : ℕ
-  pub option : ℕ
-  pub inputs : List Connector
-  pub parameters : List ℤ
-  pub label : Option (List ℕ)
-
-pub record Row : Type 0 where
-  pub class : ℕ
-  pub number : ℕ
-  pub from : Connector
-
-pub record Circuit : Type 0 where
-  pub version : ℕ
-  pub n : ℕ
-  pub blocks : List Block
-  pub rows : List Row
-
--- ---- what the fields read so far decode to, and which may come next
-
-pub record State : Type 0 where
-  pub stage : ℕ
-  pub version : ℕ
-  pub n : ℕ
-  pub blocks : List Block
-  pub rows : List Row
-
-abbrev pub nothing : State
-nothing = record { stage = opening; version = 0; n = 0; blocks = []; rows = [] }
-
-abbrev pub circuitOf : State → Circuit
-circuitOf st = record { version = st .version; n = st .n; blocks = st .blocks; rows = st .rows }
-
--- "digital block", "analog block"
-abbrev pub isAnalogBlock : Block → Bool
-isAnalogBlock b = isAnalog (kindOf (b .kind) .output)
-
-abbrev pub sortsOf : List Block → List Bool
-sortsOf blocks = map isAnalogBlock blocks
-
--- a shift register's index
-abbrev pub indexOf : Block → ℤ
-indexOf b = parameter (b .parameters) 0
-
-abbrev pub same : ℤ → ℤ → Bool
-same x y = leZ x y && leZ y x
-
--- a shift register among the blocks has the index
-unfoldable pub indexUsed : ℤ → List Block → Bool
-indexUsed x [] = false
-indexUsed x (b ∷ l) = (eqb (b .kind) shiftRegister && same (indexOf b) x) || indexUsed x l
-
--- a row has the destination
-unfoldable pub destinationUsed : ℕ → ℕ → List Row → Bool
-destinationUsed class number [] = false
-destinationUsed class number (r ∷ l) = (eqb (r .class) class && eqb (r .number) number) || destinationUsed class number l
-
--- ---- a field: "a one-byte tag, a two-byte length .., content"
-
-abbrev pub sizeAt : List ℕ → ℕ → ℕ
-sizeAt s at = numberAt 2 s (at + 1)
-
-abbrev pub contentAt : List ℕ → ℕ → List ℕ
-contentAt s at = take (sizeAt s at) (drop (at + 3) s)
-
--- where the next one begins
-abbrev pub nextAt : List ℕ → ℕ → ℕ
-nextAt s at = at + 3 + sizeAt s at
+-- ---- the field at a place, by its tag
 
 -- 0x01 header, 0x10 block, 0x20 label, 0x30 row, 0x7F end, or none of them
 unfoldable pub byTag : {A : Type 0} → ℕ → A → A → A → A → A → A → A
@@ -119,50 +45,6 @@ fieldFaults limits s at st = (1 when isCut s at) ∷ tagFaults limits s at st
 
 unfoldable pub fieldNumber : Limits → List ℕ → ℕ → State → ℕ
 fieldNumber limits s at st = lowest (fieldFaults limits s at st)
-
--- ---- what a field without a fault adds
-
-abbrev pub blockAt : List ℕ → ℕ → Block
-blockAt s at =
-    let k = kindOf (kindAt s at) in
-    record {
-      kind = kindAt s at;
-      option = optionAt s at;
-      inputs = digitalsAt s at k ++ analogsAt s at k;
-      parameters = parametersAt s at k;
-      label = none;
-    }
-
-abbrev pub rowAt : List ℕ → ℕ → Row
-rowAt s at = record { class = classAt s at; number = numberIn s at; from = connectorAt s (at + 5) }
-
-abbrev pub withLabel : List ℕ → Block → Block
-withLabel x b = record { kind = b .kind; option = b .option; inputs = b .inputs; parameters = b .parameters; label = some x }
-
--- the last block gets the label
-unfoldable pub labelled : List ℕ → List Block → List Block
-labelled x [] = []
-labelled x (b ∷ []) = withLabel x b ∷ []
-labelled x (b ∷ c ∷ l) = b ∷ labelled x (c ∷ l)
-
-abbrev pub headerTaken : List ℕ → ℕ → State → State
-headerTaken s at st =
-    record { stage = amongBlocks; version = getD s (at + 3) 0; n = numberAt 2 s (at + 4); blocks = st .blocks; rows = st .rows }
-
-abbrev pub blockTaken : List ℕ → ℕ → State → State
-blockTaken s at st =
-    record { stage = afterBlock; version = st .version; n = st .n; blocks = st .blocks ++ (blockAt s at ∷ []); rows = st .rows }
-
-abbrev pub labelTaken : List ℕ → ℕ → State → State
-labelTaken s at st =
-    record { stage = amongBlocks; version = st .version; n = st .n; blocks = labelled (contentAt s at) (st .blocks); rows = st .rows }
-
-abbrev pub rowTaken : List ℕ → ℕ → State → State
-rowTaken s at st =
-    record { stage = amongRows; version = st .version; n = st .n; blocks = st .blocks; rows = st .rows ++ (rowAt s at ∷ []) }
-
-abbrev pub endTaken : State → State
-endTaken st = record { stage = ended; version = st .version; n = st .n; blocks = st .blocks; rows = st .rows }
 
 unfoldable pub taken : List ℕ → ℕ → State → State
 taken s at st =

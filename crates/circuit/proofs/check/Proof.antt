@@ -1,0 +1,61 @@
+use mathlib.Core.Path.{_≡_, refl, sym, _∙_, ap, subst}
+use Rattle.refusals.specs.Limited.{Modest}
+use Rattle.refusals.specs.declared.Limits.{Limits}
+use Rattle.refusals.proofs.Laws.{ours-modest}
+use Rattle.circuit.specs.Circuit.{answerAt}
+use Rattle.circuit.proofs.Walk.{answer-refused, answer-accepted}
+use borrow.Author.Needs.{needs}
+use Rattle.circuit.proofs.check.Statement.{statement}
+use Rattle.circuit.proofs.check.Tie as tie
+use Rattle.circuit.proofs.check.Reads as reads
+use Rattle.circuit.proofs.check.Lts as lts
+use Rattle.circuit.proofs.judge.Reads as judge-reads
+use Rattle.kinds.proofs.table.Reads as table-reads
+use Rattle.refusals.proofs.accepted_with.Reads as accepted-with-reads
+use Rattle.refusals.proofs.ours.Reads as ours-reads
+use Rattle.refusals.proofs.refused_at.Reads as refused-at-reads
+
+table-requires : tie.Need-table-requires
+table-requires c κs = search needs
+
+ours-requires : tie.Need-ours-requires
+ours-requires c κs = search needs
+
+judge-requires : tie.Need-judge-requires
+judge-requires c κs = (c .before .before .before .table .ensures, subst Modest (sym (c .before .before .ours .ensures)) ours-modest, refl)
+
+cast-refused-at : tie.Need-cast-refused-at
+cast-refused-at c = search needs
+
+refused-at-requires : tie.Need-refused-at-requires
+refused-at-requires c κs = search needs
+
+returns : tie.Need-returns
+returns c =
+    let s = c .before .before .before .before .before .before .before .before .before .before .args .circuit .now in
+    c .refused-at .ensures
+    ∙ answer-refused _ s (c .before .before .before .before .judge .result) _ (c .before .before .before .before .judge .ensures) (c .before .before .if1 .taken)
+    ∙ ap (λ (limits : Limits). answerAt limits s) (c .before .before .before .before .before .before .before .ours .ensures)
+
+accepted-with-requires : tie.Need-accepted-with-requires
+accepted-with-requires c κs = search needs
+
+returns-2 : tie.Need-returns-2
+returns-2 c =
+    let s = c .before .before .before .before .before .before .before .before .before .before .args .circuit .now in
+    c .accepted-with .ensures
+    ∙ answer-accepted _ s (c .before .before .before .before .judge .result) _ (c .before .before .before .before .judge .ensures) (c .before .before .if1 .left)
+    ∙ ap (λ (limits : Limits). answerAt limits s) (c .before .before .before .before .before .before .before .ours .ensures)
+
+pub check-spec : {M : Type 1} → statement M
+check-spec =
+    tie.close
+    (tie.spec
+    table-requires
+    ours-requires
+    judge-requires
+    cast-refused-at
+    refused-at-requires
+    returns
+    accepted-with-requires
+    returns-2)

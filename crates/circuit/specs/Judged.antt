@@ -1,0 +1,29 @@
+-- What `judge` hands to the calls. Not part of what a reader has to believe.
+use Prim.Native.Nat.{ℕ, _+_, _*_, _≤_, _<_}
+use mathlib.Core.Path.{_≡_}
+use mathlib.Core.List.{List, map}
+use lib.ListN.{length, getD, take}
+use Rattle.refusals.specs.declared.Limits.{Limits}
+use Rattle.blockfield.specs.Marked.{Lies}
+use Rattle.decoding.specs.Decoded.{Circuit, blockAt}
+use Rattle.decoding.specs.Held.{bare, rowsAt}
+use Rattle.decoding.specs.declared.Head.{Head}
+use Rattle.circuit.specs.Circuit.{verdictAt, refused, accepted}
+use Rattle.circuit.specs.declared.Outcome.{Outcome}
+
+-- an accepted circuit: where its blocks and its rows stand
+pub record Accepts (limits : Limits) (s : List ℕ) (head : Head) (offsets : List ℕ) : Type 0 where
+  pub circuit : Circuit
+  pub is : verdictAt limits s ≡ accepted circuit
+  pub n : head .n ≡ circuit .n
+  pub blocks : head .n ≡ length (circuit .blocks)
+  pub rows : head .rows ≡ length (circuit .rows)
+  pub few : head .n ≤ 400
+  pub there : map (blockAt s) (take (head .n) offsets) ≡ map bare (circuit .blocks)
+  pub lie : (k : ℕ) → k < head .n → Lies s (getD offsets k 0)
+  pub rows-there : rowsAt s (head .start) (head .rows) ≡ circuit .rows
+  pub rows-end : head .start + 8 * head .rows + 3 ≡ length s
+
+pub record Says (limits : Limits) (s : List ℕ) (r : Outcome) (offsets : List ℕ) : Type 0 where
+  pub refuses : (r .number ≡ 0 → ⊥) → verdictAt limits s ≡ refused (r .number) (r .place)
+  pub accepts : r .number ≡ 0 → Accepts limits s (r .head) offsets

@@ -1,0 +1,4 @@
+pub mod Agree
+pub mod Marked
+pub mod Right
+pub mod Steps

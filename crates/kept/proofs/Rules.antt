@@ -1,0 +1,213 @@
+-- The tests of a connector, of parameters, of an index and of a destination against the rules that they stand for. Assumes nothing.
+use mathlib.Core.Path.{_≡_, refl, ap, _∙_}
+use mathlib.Core.Logic.{_↔_}
+use mathlib.Core.Bool.{Bool, true, false, not, _&&_, _||_, false≢true}
+use mathlib.Core.List.{List, [], _∷_}
+use Prim.Native.Nat.{ℕ, zero, suc, _+_, _≤_, _<_}
+use native.Mathlib.Omega.{arith}
+use lib.Dec.{eqb, ltb}
+use lib.ListN.{length, getD}
+use lib.IntN.{ℤ, pos}
+use lib.Signed.{leZ}
+use mir.Syntax.{w32}
+use mir.Val.{SFits}
+use borrow.Author.Tests.{lt-ltb, le-ltb, lt-leb, le-leb, eq-eqb, ne-eqb, ltb-false, leb-true, leb-false, eqb-true, eqb-false}
+use Rattle.words.specs.Signed.{over, under}
+use Rattle.words.proofs.Sides as sides
+use Rattle.words.proofs.Sides.{leZ-true, le-leZ}
+use Rattle.kinds.specs.Time.{longest}
+use Rattle.kinds.specs.Kinds.{Range, In, _to_, kindOf, parameter, settingsFit, settingFits, rangesFit, allowed}
+use Rattle.kinds.proofs.Rows.{small-kind}
+use Rattle.kinds.proofs.Allowed.{param-in}
+use Rattle.refusals.specs.declared.Limits.{Limits}
+use Rattle.connectors.specs.Connectors.{Connector, classOf, isInverted, member, takes, inverts, least, greatest, names, unknownRow, misfits, wrongSort, wrong, later, anyOf}
+use Rattle.blockfield.specs.BlockField.{shiftRegister}
+use Rattle.fields.specs.Fields.{limitOf, placeOf}
+use Rattle.decoding.specs.Decoded.{Block, Row, sortsOf, indexOf, same, indexUsed, destinationUsed}
+use Rattle.kept.specs.Keeps.{All, Match, Allowed, Refers, Parameters, Apart, Other}
+use Rattle.kept.proofs.Tests.{or-false, and-true, and-false, not-is, fails, same-bit}
+
+-- ---- a connector
+
+module _ (limits : Limits) (place n : ℕ) (before : List Block) (c : Connector) where
+  abbrev pub is-wrong : Bool
+  is-wrong = wrong limits place (length before + 1) n (sortsOf before) c
+
+  pub is-allowed : c .class < 256 → c .number < 65536 → is-wrong ≡ false → Allowed limits place n c
+  unfolding wrong misfits
+  is-allowed small fits e =
+      let m = or-false (misfits limits place n c) _ .0 e .0 in
+      let a = or-false (not (member (classOf c) (takes place))) _ .0 m in
+      let b = or-false (isInverted c && not (inverts (classOf c))) _ .0 (a .1) in
+      let range = or-false (ltb (c .number) (least (classOf c))) _ .0 (b .1) in
+      record {
+        byte = small;
+        class = not-is _ .0 (a .0);
+        inversion = λ h. not-is _ .0 (and-false _ _ .0 (b .0) (le-leb 128 (c .class) h));
+        low = ltb-false _ _ (range .0);
+        high = ltb-false _ _ (range .1);
+        fits = fits;
+      }
+
+  module _ (known-place : eqb place unknownRow ≡ false) where
+    pub refers : is-wrong ≡ false → (names (classOf c) ≡ true → c .number ≤ length before) → Refers before c
+    unfolding wrong wrongSort
+    refers e there =
+        record {
+          there = there;
+          right-sort =
+              λ h.
+              let l = there h in
+              let less : c .number < length before + 1 = omega arith in
+              let named : (names (classOf c) && ltb (c .number) (length before + 1)) ≡ true = and-true _ _ .1 (h, lt-ltb _ _ less) in
+              let known : not (eqb place unknownRow) ≡ true = ap not known-place in
+              let sort = or-false (misfits limits place n c) _ .0 e .1 in
+              same-bit _ _ .0 (not-is _ .0 (and-false _ _ .0 (and-false _ _ .0 sort named) known));
+        }
+
+  pub not-wrong : Allowed limits place n c → Refers before c → is-wrong ≡ false
+  unfolding wrong misfits wrongSort
+  not-wrong a r =
+      let k = classOf c in
+      or-false (misfits limits place n c) _ .1 (
+        or-false (not (member k (takes place))) _ .1 (
+          not-is _ .1 (a .class),
+          or-false (isInverted c && not (inverts k)) _ .1 (
+            and-false _ _ .1 (λ h. not-is _ .1 (a .inversion (leb-true _ _ h))),
+            or-false (ltb (c .number) (least k)) _ .1 (le-ltb _ _ (a .low), le-ltb _ _ (a .high)),
+          ),
+        ),
+        and-false (names k && ltb (c .number) (length before + 1)) _ .1
+            (λ h. and-false (not (eqb place unknownRow)) _ .1 (λ p. not-is _ .1 (same-bit _ _ .1 (r .right-sort (and-true _ _ .0 h .0))))),
+      )
+
+-- no own or later block is named
+pub not-later : (count : ℕ) (c : Connector) → (later (count + 1) c ≡ false) ↔ (names (classOf c) ≡ true → c .number ≤ count)
+unfolding later
+not-later count c = (
+  λ e h. let l : c .number < count + 1 = leb-false _ _ (and-false (names (classOf c)) _ .0 e h) in omega arith,
+  λ f. and-false (names (classOf c)) _ .1 (λ h. let l = f h in let m : c .number < count + 1 = omega arith in lt-leb _ _ m),
+)
+
+-- of a class that names a block, no number is above n
+pub named-most : (limits : Limits) (n k : ℕ) → names k ≡ true → greatest limits n k ≡ n
+unfolding names greatest
+named-most limits n k e = by (eqb k 6) (eqb k 9) refl refl e
+  where
+    by : (a b : Bool) → eqb k 6 ≡ a → eqb k 9 ≡ b → (a || b) ≡ true → greatest limits n k ≡ n
+    by true b p q e = ap (greatest limits n) (eqb-true k 6 p)
+    by false true p q e = ap (greatest limits n) (eqb-true k 9 q)
+    by false false p q e = absurd (false≢true e)
+
+pub none-of : (f : Connector → Bool) (l : List Connector) → (anyOf f l ≡ false) ↔ All (λ c. f c ≡ false) l
+unfolding anyOf
+none-of f [] = (λ e. tt, λ a. refl)
+none-of f (c ∷ l) = (
+  λ e. let p = or-false (f c) (anyOf f l) .0 e in (p .0, none-of f l .0 (p .1)),
+  λ a. or-false (f c) (anyOf f l) .1 (a .0, none-of f l .1 (a .1)),
+)
+
+-- ---- parameters
+
+-- each in its range, at every place: past the end both are 0
+each-in : (rs : List Range) (vs : List ℤ) → Match In rs vs → (j : ℕ) → In (getD rs j (pos 0 to pos 0)) (parameter vs j)
+each-in [] [] m j = record { between = refl }
+each-in [] (v ∷ vs) m j = absurd m
+each-in (r ∷ rs) [] m j = absurd m
+each-in (r ∷ rs) (v ∷ vs) m zero = m .0
+each-in (r ∷ rs) (v ∷ vs) m (suc j) = each-in rs vs (m .1) j
+
+in-each : (rs : List Range) (vs : List ℤ) → length vs ≡ length rs
+    → ((j : ℕ) → j < length rs → In (getD rs j (pos 0 to pos 0)) (parameter vs j)) → Match In rs vs
+in-each [] [] q h = tt
+in-each [] (v ∷ vs) q h = let z : ⊥ = omega arith in absurd z
+in-each (r ∷ rs) [] q h = let z : ⊥ = omega arith in absurd z
+in-each (r ∷ rs) (v ∷ vs) q h =
+    let l : length vs ≡ length rs = omega arith in
+    (h 0 (omega arith), in-each rs vs l (λ j less. h (suc j) (omega arith)))
+
+abbrev Setting : List ℤ → ℕ → Type 0
+Setting vs j = In (pos 0 to pos (longest (over (parameter vs 0)))) (parameter vs j)
+
+settings-iff : (vs : List ℤ) (n : ℕ) → (settingsFit n vs ≡ true) ↔ ((j : ℕ) → 1 ≤ j → j ≤ n → Setting vs j)
+settings-iff vs zero = (λ e j l h. let z : ⊥ = omega arith in absurd z, λ f. refl)
+settings-iff vs (suc n) = (
+  λ e j l h.
+      let p = and-true (settingFits (parameter vs 0) (parameter vs (suc n))) (settingsFit n vs) .0 e in
+      last j (p .0) (λ m. settings-iff vs n .0 (p .1) j l m) h (eqb j (suc n)) refl,
+  λ f.
+      and-true (settingFits (parameter vs 0) (parameter vs (suc n))) (settingsFit n vs) .1
+      (f (suc n) (omega arith) (omega arith) .between, settings-iff vs n .1 (λ j l h. f j l (omega arith))),
+)
+  where
+    last : (j : ℕ) → settingFits (parameter vs 0) (parameter vs (suc n)) ≡ true → (j ≤ n → Setting vs j) → j ≤ suc n → (b : Bool)
+        → eqb j (suc n) ≡ b → Setting vs j
+    last j e rest h true q = record { between = ap (λ (i : ℕ). settingFits (parameter vs 0) (parameter vs i)) (eqb-true j (suc n) q) ∙ e }
+    last j e rest h false q = let ne = eqb-false j (suc n) q in rest (omega (arith, ne))
+
+module _ (kind : ℕ) (vs : List ℤ) where
+  pub right-parameters : length vs ≡ length (kindOf kind .parameters) → All (SFits w32) vs → allowed kind vs ≡ true
+      → Parameters (kindOf kind) vs
+  unfolding allowed
+  right-parameters q fit e =
+      let few = small-kind kind .parameters in
+      record {
+        fit = fit;
+        ranges = in-each (kindOf kind .parameters) vs q (λ j less. param-in kind vs e j (omega arith));
+        settings = settings-iff vs (kindOf kind .times) .0 (and-true (rangesFit (kindOf kind) vs) _ .0 e .1);
+      }
+
+  pub are-allowed : Parameters (kindOf kind) vs → allowed kind vs ≡ true
+  unfolding allowed
+  are-allowed k =
+      let at = each-in (kindOf kind .parameters) vs (k .ranges) in
+      and-true (rangesFit (kindOf kind) vs) (settingsFit (kindOf kind .times) vs) .1 (
+        and-true _ _ .1 (at 0 .between, and-true _ _ .1 (at 1 .between, and-true _ _ .1 (at 2 .between, at 3 .between))),
+        settings-iff vs (kindOf kind .times) .1 (k .settings),
+      )
+
+-- ---- destinations and shift registers
+
+-- a class that has numbers is one of the four
+pub known-class : (limits : Limits) (class number : ℕ) → 1 ≤ number → number ≤ limitOf limits class
+    → (class < 5) × (eqb (placeOf class) unknownRow ≡ false)
+unfolding limitOf placeOf
+known-class limits zero number l h = let z : ⊥ = omega arith in absurd z
+known-class limits (suc zero) number l h = (omega arith, refl)
+known-class limits (suc (suc zero)) number l h = (omega arith, refl)
+known-class limits (suc (suc (suc zero))) number l h = (omega arith, refl)
+known-class limits (suc (suc (suc (suc zero)))) number l h = (omega arith, refl)
+known-class limits (suc (suc (suc (suc (suc k))))) number l h = let z : ⊥ = omega arith in absurd z
+
+same-iff : (x y : ℤ) → (same x y ≡ true) ↔ (x ≡ y)
+same-iff x y = (
+  λ e. let p = and-true (leZ x y) (leZ y x) .0 e in sides.same x y (omega (arith, leZ-true x y (p .0), leZ-true y x (p .1))),
+  λ e.
+      let o = ap over e in
+      let u = ap under e in
+      and-true (leZ x y) (leZ y x) .1 (le-leZ x y (omega arith), le-leZ y x (omega arith)),
+)
+
+pub apart : (x : ℤ) (l : List Block) → (indexUsed x l ≡ false) ↔ All (Apart x) l
+unfolding indexUsed
+apart x [] = (λ e. tt, λ a. refl)
+apart x (b ∷ l) = (
+  λ e.
+      let p = or-false (eqb (b .kind) shiftRegister && same (indexOf b) x) (indexUsed x l) .0 e in
+      (record { apart = λ k i. fails _ .0 (and-false _ _ .0 (p .0) (eq-eqb _ _ k)) (same-iff _ _ .1 i) }, apart x l .0 (p .1)),
+  λ h.
+      or-false _ _ .1
+      (and-false _ _ .1 (λ k. fails _ .1 (λ i. h .0 .apart (eqb-true _ _ k) (same-iff _ _ .0 i))), apart x l .1 (h .1)),
+)
+
+pub once : (r : Row) (l : List Row) → (destinationUsed (r .class) (r .number) l ≡ false) ↔ All (Other r) l
+unfolding destinationUsed
+once r [] = (λ e. tt, λ a. refl)
+once r (a ∷ l) = (
+  λ e.
+      let p = or-false (eqb (a .class) (r .class) && eqb (a .number) (r .number)) (destinationUsed (r .class) (r .number) l) .0 e in
+      (record { other = λ k i. eqb-false _ _ (and-false _ _ .0 (p .0) (eq-eqb _ _ k)) i }, once r l .0 (p .1)),
+  λ h.
+      or-false _ _ .1
+      (and-false _ _ .1 (λ k. ne-eqb _ _ (h .0 .other (eqb-true _ _ k))), once r l .1 (h .1)),
+)

@@ -1,0 +1,48 @@
+-- The first number that holds is the lowest where the numbers rise; our limits are modest. Assumes nothing.
+use mathlib.Core.Path.{_≡_, refl}
+use mathlib.Core.Bool.{Bool, true, false, _&&_, false≢true}
+use mathlib.Core.List.{List, [], _∷_}
+use Prim.Native.Nat.{ℕ, _≤_}
+use native.Mathlib.Omega.{arith}
+use borrow.Author.Tests.{leb-true}
+use lib.Dec.{leb}
+use Rattle.refusals.specs.Faults.{Fault, lowest, risesFrom, rises}
+use Rattle.refusals.specs.Limited.{ours, Modest}
+
+-- a number is at most each one of a list that holds
+abbrev pub AtMost : ℕ → List Fault → Type 0
+AtMost k [] = Unit {0}
+AtMost k (f ∷ l) = (f .holds ≡ true → k ≤ f .number) × AtMost k l
+
+and-both : (a b : Bool) → (a && b) ≡ true → (a ≡ true) × (b ≡ true)
+and-both true b e = (refl, e)
+and-both false b e = absurd (false≢true e)
+
+-- what rises from a number on is not below it
+from-on : (k j : ℕ) (l : List Fault) → j ≤ k → risesFrom k l ≡ true → AtMost j l
+from-on k j [] h e = tt
+from-on k j (f ∷ l) h e =
+    let both = and-both (leb k (f .number)) (risesFrom (f .number) l) e in
+    let low : k ≤ f .number = leb-true k (f .number) (both .0) in
+    let lower : j ≤ f .number = omega arith in
+    (λ x. lower, from-on (f .number) j l lower (both .1))
+
+one-more : (f : Fault) (l : List Fault) → risesFrom (f .number) l ≡ true → AtMost (lowest l) l → AtMost (lowest (f ∷ l)) (f ∷ l)
+one-more f l e below = go (f .holds) refl
+  where
+    go : (b : Bool) → f .holds ≡ b → AtMost (lowest (f ∷ l)) (f ∷ l)
+    go true h = rw h (λ x. omega arith, from-on (f .number) (f .number) l (omega arith) e)
+    go false h = rw h (λ x. absurd (false≢true x), below)
+
+least-from : (k : ℕ) (l : List Fault) → risesFrom k l ≡ true → AtMost (lowest l) l
+least-from k [] e = tt
+least-from k (f ∷ l) e =
+    let on = and-both (leb k (f .number)) (risesFrom (f .number) l) e .1 in
+    one-more f l on (least-from (f .number) l on)
+
+-- "the lowest number that holds"
+pub least-of-rising : (l : List Fault) → rises l ≡ true → AtMost (lowest l) l
+least-of-rising l e = least-from 1 l e
+
+pub ours-modest : Modest ours
+ours-modest = record { blocks = omega arith; q = omega arith; aq = omega arith; m = omega arith; am = omega arith }
