@@ -50,8 +50,8 @@ pub fn label_number(size: usize, stage: u8) -> u8
 }
 
 // The number of the end field.
-pub fn end_number(size: usize, stage: u8, n: usize, blocks: usize) -> u8
-    ensures { λ r. ⌜ r ≡ lowest (endFaults size stage n blocks) ⌝ }
+pub fn end_number(size: usize, stage: u8, n: usize, count: usize) -> u8
+    ensures { λ r. ⌜ r ≡ lowest (endFaults size stage n count) ⌝ }
 {
     if stage == OPENING {
         return 2;
@@ -59,7 +59,7 @@ pub fn end_number(size: usize, stage: u8, n: usize, blocks: usize) -> u8
     if size != 0 {
         return 2;
     }
-    if blocks < n {
+    if count < n {
         return 4;
     }
     0

@@ -1,0 +1,6 @@
+// Reads a circuit from standard input and prints the four numbers of check's answer.
+use libc::STDIN_FILENO;
+
+fn main() {
+    report::judged(STDIN_FILENO);
+}

@@ -1,0 +1,116 @@
+use mathlib.Core.Path.{_≡_, refl, sym, _∙_, ap, ap₂, subst}
+use mathlib.Core.Bool.{true}
+use Prim.Native.Nat.{ℕ, _+_, _*_, _≤_}
+use native.Mathlib.Omega.{arith}
+use lib.Dec.{eqb}
+use lib.ListN.{length}
+use lib.IntN.{ℤ}
+use Rattle.kinds.specs.Kinds.{kindOf, known, contentLength, allowed}
+use Rattle.connectors.specs.Connectors.{Connector, connectorsAt}
+use Rattle.blockfield.specs.BlockField.{parametersAt}
+use Rattle.blockfield.specs.Marked.{fourOf}
+use Rattle.blockfield.proofs.Laws.{lent, allowed-four}
+use Rattle.blocks.specs.Blocks.{prepared}
+use Rattle.lines.specs.Lines.{classesOf, numbersOf, lineOf}
+use Rattle.lines.proofs.Laws.{line-read}
+use borrow.Author.Needs.{needs}
+use Rattle.lines.proofs.line_at.Statement.{statement}
+use Rattle.lines.proofs.line_at.Tie as tie
+use Rattle.lines.proofs.line_at.Reads as reads
+use Rattle.lines.proofs.line_at.Lts as lts
+use Rattle.blockfield.proofs.parameters_at.Reads as parameters-at-reads
+use Rattle.blocks.proofs.prepare.Reads as prepare-reads
+use Rattle.kinds.proofs.analog_inputs.Reads as analog-inputs-reads
+use Rattle.kinds.proofs.digital_inputs.Reads as digital-inputs-reads
+use Rattle.lines.proofs.classes_at.Reads as classes-at-reads
+use Rattle.lines.proofs.numbers_at.Reads as numbers-at-reads
+use Rattle.words.proofs.byte_at.Reads as byte-at-reads
+
+add-byte-at : tie.Need-add-byte-at
+add-byte-at c = search needs
+
+byte-at-requires : tie.Need-byte-at-requires
+byte-at-requires c κs = omega (arith, c .before .pre .1 .inside)
+
+add-byte-at-2 : tie.Need-add-byte-at-2
+add-byte-at-2 c = search needs
+
+byte-at-requires-2 : tie.Need-byte-at-requires-2
+byte-at-requires-2 c κs = omega (arith, c .before .before .pre .1 .inside)
+
+digital-inputs-requires : tie.Need-digital-inputs-requires
+digital-inputs-requires c κs =
+    let a = c .before .before .before .args in
+    let lies = c .before .before .before .pre .1 in
+    let kind = c .before .byte-at .ensures .0 in
+    let l = lent (a .kinds .now) _ (c .before .before .before .pre .0) (ap known kind ∙ lies .is-known) in l
+
+analog-inputs-requires : tie.Need-analog-inputs-requires
+analog-inputs-requires c κs =
+    let a = c .before .before .before .before .args in
+    let lies = c .before .before .before .before .pre .1 in
+    let kind = c .before .before .byte-at .ensures .0 in
+    let l = lent (a .kinds .now) _ (c .before .before .before .before .pre .0) (ap known kind ∙ lies .is-known) in l
+
+add-count : tie.Need-add-count
+add-count c = search needs
+
+add-from : tie.Need-add-from
+add-from c = search needs
+
+classes-at-requires : tie.Need-classes-at-requires
+classes-at-requires c κs =
+    let kind = c .before .before .before .byte-at .ensures .0 in
+    let d = c .before .digital-inputs .ensures .0 ∙ ap (λ (k : ℕ). kindOf k .digitals) kind in
+    let e = c .analog-inputs .ensures .0 ∙ ap (λ (k : ℕ). kindOf k .analogs) kind in
+    omega (arith, c .before .before .before .before .before .pre .1 .inside, d, e)
+
+numbers-at-requires : tie.Need-numbers-at-requires
+numbers-at-requires c κs =
+    let kind = c .before .before .before .before .byte-at .ensures .0 in
+    let d = c .before .before .digital-inputs .ensures .0 ∙ ap (λ (k : ℕ). kindOf k .digitals) kind in
+    let e = c .before .analog-inputs .ensures .0 ∙ ap (λ (k : ℕ). kindOf k .analogs) kind in
+    omega (arith, c .before .before .before .before .before .before .pre .1 .inside, d, e)
+
+parameters-at-requires : tie.Need-parameters-at-requires
+parameters-at-requires c κs =
+    let a = c .before .before .before .before .before .before .before .args in
+    let lies = c .before .before .before .before .before .before .before .pre .1 in
+    let kind = c .before .before .before .before .before .byte-at .ensures .0 in
+    let l = lent (a .kinds .now) _ (c .before .before .before .before .before .before .before .pre .0) (ap known kind ∙ lies .is-known) in
+    (l, subst (λ (k : ℕ). (a .at + 3) + contentLength (kindOf k) ≤ length (a .bytes .now)) (sym kind) (lies .inside))
+
+prepare-requires : tie.Need-prepare-requires
+prepare-requires c κs =
+    let a = c .before .before .before .before .before .before .before .before .args in
+    let lies = c .before .before .before .before .before .before .before .before .pre .1 in
+    let kind = c .before .before .before .before .before .before .byte-at .ensures .0 in
+    let l = lent (a .kinds .now) _ (c .before .before .before .before .before .before .before .before .pre .0) (ap known kind ∙ lies .is-known) in
+    let p = parametersAt (a .bytes .now) (a .at) (kindOf (c .before .before .before .before .before .before .byte-at .result)) in
+    let ok = subst (λ (k : ℕ). allowed k (parametersAt (a .bytes .now) (a .at) (kindOf k)) ≡ true) (sym kind) (lies .is-allowed) in
+    (l, ap (allowed (c .before .before .before .before .before .before .byte-at .result)) (c .parameters-at .ensures) ∙ allowed-four (c .before .before .before .before .before .before .byte-at .result) p ∙ ok)
+
+returns : tie.Need-returns
+returns c =
+    let a = c .before .before .before .before .before .before .before .before .before .args in
+    line-read (a .bytes .now) (a .at) (c .before .before .before .before .before .before .before .byte-at .result) (c .before .before .before .before .before .before .byte-at2 .result) _ _ _ _ _ (c .before .before .before .before .before .before .before .byte-at .ensures .0) (c .before .before .before .before .before .before .byte-at2 .ensures .0)
+    (ap₂ (λ (x y : ℕ). x + y) (c .before .before .before .before .before .digital-inputs .ensures .0) (c .before .before .before .before .analog-inputs .ensures .0))
+    (c .before .before .before .classes-at .ensures) (c .before .before .numbers-at .ensures) (c .before .parameters-at .ensures) (c .prepare .ensures)
+
+pub line-at-spec : {M : Type 1} → statement M
+line-at-spec =
+    tie.close
+    (tie.spec
+    add-byte-at
+    byte-at-requires
+    add-byte-at-2
+    byte-at-requires-2
+    digital-inputs-requires
+    analog-inputs-requires
+    add-count
+    add-from
+    classes-at-requires
+    numbers-at-requires
+    parameters-at-requires
+    prepare-requires
+    returns)

@@ -1,0 +1,80 @@
+/* Circuits for the tests and the bench, written field by field, so that what check must answer is known by construction. */
+#ifndef CIRCUITS_H
+#define CIRCUITS_H
+
+#include <stdbool.h>
+#include <stddef.h>
+#include <stdint.h>
+
+enum {
+    KINDS = 16,
+    MOST_BLOCKS = 400,
+    DESTINATIONS = 20 + 64 + 8 + 64,
+    /* the longest circuit that is accepted: multiplexers with full labels, a row for each destination */
+    LONGEST_CIRCUIT = 6 + MOST_BLOCKS * (30 + 19) + DESTINATIONS * 8 + 3,
+    MOST_FIELDS = 1 + 2 * MOST_BLOCKS + DESTINATIONS + 1
+};
+
+enum { HEADER = 0x01, BLOCK = 0x10, LABEL = 0x20, ROW = 0x30, END = 0x7F };
+
+/* ---- chance: the same numbers for the same seed, on every machine */
+
+typedef struct {
+    uint64_t state;
+} chance;
+
+chance chance_of(uint64_t seed);
+uint32_t below(chance *with, uint32_t bound);                   /* 0 to bound - 1 */
+bool once_in(chance *with, uint32_t times);                     /* true once in so many times */
+int32_t between(chance *with, int32_t least, int32_t greatest); /* both ends are often met */
+
+/* ---- the kinds as the tests see them */
+
+typedef struct {
+    const char *inputs; /* a letter each: d digital, a analog */
+    unsigned parameters;
+    int32_t least[4], greatest[4]; /* T: the greatest of any base */
+    bool retentive;
+} shape;
+
+extern const shape shapes[KINDS + 1];
+
+bool is_delay(unsigned kind);
+unsigned inputs_of(unsigned kind);
+size_t input_at(unsigned i);                    /* where input i stands, from the block's tag on */
+size_t parameter_at(unsigned kind, unsigned i); /* where parameter i stands, from the block's tag on */
+
+/* ---- writing */
+
+typedef struct {
+    uint8_t bytes[LONGEST_CIRCUIT + 64];
+    size_t length;
+    unsigned n, rows;
+    unsigned fields;
+    size_t place[MOST_FIELDS];      /* where each field begins */
+    uint8_t kinds[MOST_BLOCKS + 1]; /* of each block, by number */
+    unsigned blocks, registers;     /* so far; a register's index is its count */
+} circuit;
+
+void put_two(uint8_t *at, unsigned number);
+void put_four(uint8_t *at, int32_t number);
+
+void begin_circuit(circuit *c, unsigned n); /* the header */
+void add_label(circuit *c, const uint8_t *text, size_t length);
+void add_row(circuit *c, unsigned class, unsigned number, unsigned source, unsigned source_number);
+void end_circuit(circuit *c);
+
+/* A block whose inputs are I1 or analog input 1 and whose parameters are allowed; a register takes the next index. */
+void add_plain_block(circuit *c, unsigned kind);
+
+/* The class and number of destination k, from 0: Q, M, AQ, AM in turn. */
+void destination_of(unsigned k, unsigned *class, unsigned *number);
+
+/* An accepted circuit with n blocks and so many rows, all else by chance; the last block has this kind, if it is not 0. */
+void random_circuit(circuit *c, chance *with, unsigned n, unsigned rows, unsigned last_kind);
+
+/* An accepted circuit with n blocks, all kinds in turn, labels of 16 bytes, and a row for each destination if there are blocks.
+   Each block names the one before it where the sort allows. There are four shift registers; OR stands for further ones. */
+void full_circuit(circuit *c, unsigned n);
+
+#endif

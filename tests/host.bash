@@ -1,0 +1,69 @@
+# Sourced by the host tests and the bench: the compilers, how a program is run, the archive.
+# The archive is for x86-64. On another machine programs are built by a cross compiler and run by an emulator.
+set -u
+cd "$(dirname "${BASH_SOURCE[0]}")/.." || exit 2
+work=$(mktemp -d) || exit 2
+trap 'rm -rf "$work"' EXIT
+
+warnings="-Wall -Wextra -Werror -pedantic"
+archive=${SERIFDOVE_ARCHIVE:-target/staticlib/libserifdove.a}
+if [ "$(uname -m)" = x86_64 ]; then
+    emulated=no
+    cc=gcc cxx=g++
+    runner=()
+else
+    emulated=yes
+    cc=x86_64-linux-gnu-gcc cxx=x86_64-linux-gnu-g++
+    runner=(qemu-x86_64 -L /usr/x86_64-linux-gnu)
+fi
+
+# need COMMAND PACKAGE..: installs Debian packages where a command is missing
+need() {
+    command -v "$1" >/dev/null 2>&1 && return
+    echo "host: installing ${*:2}"
+    export DEBIAN_FRONTEND=noninteractive
+    { apt-get update && apt-get -o DPkg::Lock::Timeout=300 install -y "${@:2}"; } >"$work/apt" 2>&1 && return
+    tail -n 20 "$work/apt"
+    exit 2
+}
+
+need_c() {
+    if [ "$emulated" = no ]; then
+        need gcc gcc libc6-dev
+    else
+        need "$cc" gcc-x86-64-linux-gnu libc6-dev-amd64-cross
+        need qemu-x86_64 qemu-user
+    fi
+}
+
+need_cxx() {
+    if [ "$emulated" = no ]; then need g++ g++; else need "$cxx" g++-x86-64-linux-gnu; fi
+}
+
+newer_source() {
+    find crates crates.txt -newer "$archive" -print -quit
+}
+
+# Makes the archive where it is missing or older than a source. SERIFDOVE_ARCHIVE names another one, taken as it is.
+need_archive() {
+    if [ -z "${SERIFDOVE_ARCHIVE:-}" ] && { [ ! -f "$archive" ] || [ -n "$(newer_source)" ]; }; then
+        echo "host: rt staticlib serifdove"
+        rt staticlib serifdove >"$work/archive" 2>&1 || { cat "$work/archive" && exit 1; }
+    fi
+    [ -f "$archive" ] || { echo "host: there is no $archive" && exit 1; }
+    echo "host: $archive, $("$cc" --version | head -n 1), emulated: $emulated"
+}
+
+# build_c OUT FILE..: a program of these C files and the archive
+build_c() {
+    $cc -std=c11 $warnings -O2 -Iinclude -Ioracle -Itests -pthread -o "$1" "${@:2}" "$archive" || exit 1
+}
+
+build_cxx() {
+    $cxx -std=c++17 $warnings -O2 -Iinclude -o "$1" "${@:2}" "$archive" || exit 1
+}
+
+# run PROGRAM WORD..
+run() {
+    "${runner[@]}" "$@"
+}
