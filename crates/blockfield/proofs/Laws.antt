@@ -1,22 +1,22 @@
 -- Laws of a block's kind, inputs, parameters and index. Assumes nothing.
 use mathlib.Core.Path.{_≡_, refl, sym, ap, _∙_, subst}
-use mathlib.Core.Bool.{Bool, true, false, not, _&&_, _||_, cond}
-use mathlib.Core.List.{List, [], _∷_}
-use Prim.Native.Nat.{ℕ, zero, suc, _+_, _-_, _*_, _≤_, _<_}
+use mathlib.Core.Bool.{Bool, true, false, not, _&&_, cond}
+use mathlib.Core.List.{List, []}
+use Prim.Native.Nat.{ℕ, zero, suc, _+_, _*_, _≤_, _<_}
 use native.Mathlib.Nat.{le-of-suc-le-suc}
 use native.Mathlib.Omega.{arith}
 use lib.Dec.{eqb, leb, ltb}
-use lib.ListN.{length, getD}
+use lib.ListN.{length}
 use lib.IntN.{ℤ, pos}
-use borrow.Author.Tests.{eq-eqb, ne-eqb, le-leb, lt-leb, eqb-true, leb-false, ltb-true, not-false}
-use Rattle.words.specs.Signed.{over, Between}
-use Rattle.kinds.specs.Kinds.{Kind, kinds, kindOf, known, contentLength, parameter, rangesFit, settingsFit, allowed, indexed}
+use borrow.Author.Tests.{eq-eqb, ne-eqb, lt-leb, eqb-true, ltb-true, not-false}
+use Rattle.words.specs.Signed.{Between}
+use Rattle.kinds.specs.Kinds.{Kind, kinds, kindOf, known, contentLength, parameter, rangesFit, settingsFit, allowed, scaled, timed, indexed, chosen}
 use Rattle.kinds.specs.Table.{kindsTable, Lent}
 use Rattle.kinds.proofs.Allowed.{param-in}
-use Rattle.kinds.proofs.Rows.{small-kind}
-use Rattle.refusals.specs.Faults.{lowest, _when_}
+use Rattle.kinds.proofs.Rows.{each-kind, small-kind}
+use Rattle.refusals.specs.Faults.{lowest}
 use Rattle.refusals.specs.declared.Limits.{Limits}
-use Rattle.connectors.specs.Connectors.{sixOrSeven, anyOf, wrong, later, connectorsAt}
+use Rattle.connectors.specs.Connectors.{sixOrSeven, wrong}
 use Rattle.connectors.proofs.Laws.{and-right, none-wrong, none-later}
 use Rattle.blockfield.specs.BlockField.{kindAt, optionAt, digitalsAt, analogsAt, parametersFrom, parametersAt, signedAt, signedsAt, wrongLength, mostOption, wrongKind, wrongInputs, laterInputs, indexFrom, shiftRegister, blockFaults}
 use Rattle.blockfield.specs.Marked.{fourOf, knownFaults}
@@ -61,6 +61,20 @@ pub allowed-four : (kind : ℕ) (p : List ℤ) → allowed kind (fourOf p) ≡ a
 unfolding allowed
 allowed-four kind p =
     ap (λ (b : Bool). rangesFit (kindOf kind) p && b) (settings-four (kindOf kind .times) p (small-kind kind .times))
+
+-- a kind without parameters allows none
+plain : Kind → Bool
+plain k = cond (eqb (length (k .parameters)) 0) (rangesFit k [] && settingsFit (k .times) []) true
+
+plain-kind : (kind : ℕ) → plain (kindOf kind) ≡ true
+unfolding plain kinds scaled timed indexed chosen
+plain-kind kind = each-kind plain refl refl kind
+
+pub none-allowed : (s : List ℕ) (at kind : ℕ) → length (kindOf kind .parameters) ≡ 0 → allowed kind (parametersAt s at (kindOf kind)) ≡ true
+unfolding plain allowed signedsAt
+none-allowed s at kind e =
+    ap (λ (n : ℕ). allowed kind (signedsAt s (parametersFrom at (kindOf kind)) n)) e
+    ∙ (rw (eq-eqb (length (kindOf kind .parameters)) 0 e) at (plain-kind kind))
 
 -- ---- a shift register's index
 

@@ -1,10 +1,10 @@
 -- What the functions below the judging of a block answer. Not part of what a reader has to believe.
-use Prim.Native.Nat.{ℕ, _+_, _-_, _*_, _≤_}
+use Prim.Native.Nat.{ℕ, _+_, _-_, _≤_}
 use mathlib.Core.Path.{_≡_}
 use mathlib.Core.Bool.{Bool, true, not}
 use mathlib.Core.List.{List, [], _∷_}
-use lib.ListN.{length, getD}
-use lib.IntN.{ℤ, pos}
+use lib.ListN.{length}
+use lib.IntN.{ℤ}
 use Rattle.words.specs.Signed.{over}
 use Rattle.kinds.specs.Kinds.{kindOf, known, contentLength, allowed, parameter}
 use Rattle.refusals.specs.Faults.{Fault, _when_}

@@ -131,6 +131,9 @@ fn known_number(
     if fault != 0 {
         return fault;
     }
+    if kinds::parameters(kinds, kind) == 0 {
+        return 0;
+    }
     if kinds::are_allowed(kinds, kind, parameters_at(kinds, bytes, at, kind)) {
         return 0;
     }

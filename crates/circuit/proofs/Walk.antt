@@ -1,10 +1,10 @@
 -- The pass goes as the verdict walks: field by field, by tag, to the end field and what is behind it. Assumes nothing.
 use mathlib.Core.Path.{_≡_, refl, ap, ap₂, sym, _∙_, subst}
-use mathlib.Core.Bool.{Bool, true, false, not, _||_, cond}
+use mathlib.Core.Bool.{Bool, true, false}
 use mathlib.Core.List.{List, [], _∷_, map}
-use Prim.Native.Nat.{ℕ, zero, suc, _+_, _-_, _*_, _≤_, _<_}
+use Prim.Native.Nat.{ℕ, zero, suc, _+_, _-_, _≤_, _<_}
 use native.Mathlib.Omega.{arith}
-use lib.Dec.{eqb, ltb}
+use lib.Dec.{ltb}
 use lib.ListN.{length, getD, take, replicate, getD-replicate, length-replicate}
 use borrow.Author.Tests.{lt-ltb, le-ltb, eq-eqb, ne-eqb, ltb-false}
 use Rattle.refusals.specs.Faults.{Fault, lowest, _when_}
@@ -12,16 +12,15 @@ use Rattle.refusals.specs.Stages.{opening, ended}
 use Rattle.refusals.specs.Limited.{Modest}
 use Rattle.refusals.specs.Answers.{refusedAt, acceptedWith}
 use Rattle.refusals.specs.declared.Limits.{Limits}
-use Rattle.refusals.specs.declared.Answer.{Answer}
 use Rattle.connectors.proofs.Laws.{or-false-right}
 use Rattle.blockfield.specs.BlockField.{signedAt, indexFrom, blockFaults}
 use Rattle.fields.specs.Fields.{headerFaults, labelFaults, rowFaults, endFaults, classAt, numberIn}
 use Rattle.fields.specs.Marks.{mark}
 use Rattle.fields.proofs.Laws.{mark-below}
-use Rattle.decoding.specs.Decoded.{Circuit, State, sortsOf, indexUsed, destinationUsed, sizeAt, nextAt, headerTaken, blockTaken, labelTaken, rowTaken, endTaken, nothing, circuitOf, blockAt}
+use Rattle.decoding.specs.Decoded.{State, sortsOf, indexUsed, destinationUsed, sizeAt, nextAt, headerTaken, blockTaken, labelTaken, rowTaken, endTaken, nothing, circuitOf, blockAt}
 use Rattle.circuit.specs.Circuit.{isCut, byTag, tagFaults, fieldFaults, fieldNumber, taken, closing, walk, refused, accepted, verdictAt, answerTo, answerAt}
-use Rattle.decoding.specs.Held.{bare, rowsAt, Seen, seenOf, Judged, Judges, Sound, Holds}
-use Rattle.circuit.specs.Judged.{Accepts, Says}
+use Rattle.decoding.specs.Held.{rowsAt, Seen, seenOf, Judged, Judges, Sound, Holds}
+use Rattle.circuit.specs.Judged.{Says}
 use Rattle.decoding.specs.declared.Head.{Head}
 use Rattle.circuit.specs.declared.Outcome.{Outcome}
 use Rattle.decoding.proofs.Right.{first-not}

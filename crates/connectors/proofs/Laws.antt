@@ -5,11 +5,11 @@ use mathlib.Core.List.{List, [], _∷_}
 use Prim.Native.Nat.{ℕ, zero, suc, _+_, _-_, _*_, _/_, _%_, _^_, _≤_, _<_}
 use native.Mathlib.Nat.{sub-self, not-suc-le-zero, le-of-suc-le-suc}
 use native.Mathlib.Omega.{arith}
-use lib.Dec.{eqb, leb, ltb}
-use lib.ListN.{length, getD}
+use lib.Dec.{eqb, leb}
+use lib.ListN.{getD}
 use borrow.Author.Tests.{ne-eqb, eqb-true, leb-true}
 use Rattle.refusals.specs.declared.Limits.{Limits}
-use Rattle.connectors.specs.Connectors.{Connector, member, takes, inverts, names, least, greatest, connectorAt, connectorsAt, wrong, later, anyOf, sixOrSeven}
+use Rattle.connectors.specs.Connectors.{member, takes, inverts, names, least, greatest, connectorAt, connectorsAt, wrong, later, anyOf, sixOrSeven}
 use Rattle.connectors.specs.Named.{lower}
 
 -- ---- tests

@@ -1,5 +1,5 @@
 -- What a field without a fault says of itself. Assumes nothing.
-use mathlib.Core.Path.{_≡_, refl, sym, _∙_}
+use mathlib.Core.Path.{_≡_, refl}
 use mathlib.Core.Bool.{Bool, true, false, not, _&&_, _||_, cond}
 use mathlib.Core.List.{List}
 use Prim.Native.Nat.{ℕ, suc, _+_, _≤_, _<_}
@@ -17,7 +17,6 @@ use Rattle.connectors.proofs.Laws.{or-false-left, or-false-right}
 use Rattle.blockfield.specs.BlockField.{kindAt, optionAt, digitalsAt, analogsAt, parametersAt, wrongLength, mostOption, wrongKind, wrongInputs, laterInputs, blockFaults}
 use Rattle.blockfield.proofs.Laws.{right-length}
 use Rattle.fields.specs.Fields.{headerFaults, labelFaults, rowFaults, endFaults, classAt, numberIn, unknown, placeOf}
-use Rattle.fields.proofs.Laws.{Known, known-destination}
 
 -- the first of a list does not hold, and nothing behind it
 pub first-not : (k : ℕ) (b : Bool) (t : ℕ) → cond b (suc k) t ≡ 0 → (b ≡ false) × (t ≡ 0)

@@ -13,12 +13,12 @@ use borrow.Author.Tests.{eqb-true, eqb-false}
 use Rattle.words.specs.Bytes.{numberAt}
 use Rattle.words.specs.Signed.{over, Between}
 use Rattle.words.proofs.Bounds.{amount-between}
-use Rattle.kinds.specs.Kinds.{kinds, kindOf, isAnalog, contentLength, parameter, allowed, indexed}
+use Rattle.kinds.specs.Kinds.{kinds, kindOf, isAnalog, parameter, allowed, indexed}
 use Rattle.refusals.specs.Faults.{lowest}
-use Rattle.refusals.specs.Stages.{opening, amongBlocks, afterBlock, amongRows, ended}
+use Rattle.refusals.specs.Stages.{amongBlocks, afterBlock, amongRows, ended}
 use Rattle.refusals.specs.Limited.{Modest}
 use Rattle.refusals.specs.declared.Limits.{Limits}
-use Rattle.blockfield.specs.BlockField.{kindAt, parametersAt, parametersFrom, signedAt, signedsAt, indexFrom, shiftRegister, blockFaults}
+use Rattle.blockfield.specs.BlockField.{kindAt, parametersAt, signedAt, signedsAt, indexFrom, shiftRegister, blockFaults}
 use Rattle.blockfield.specs.Marked.{indexMark, Lies}
 use Rattle.blockfield.proofs.Laws.{index-range}
 use Rattle.fields.specs.Fields.{headerFaults, labelFaults, rowFaults, endFaults, classAt, numberIn}

@@ -1,11 +1,11 @@
 -- Laws of destinations, and of the connector of a row. Assumes nothing.
 use mathlib.Core.Path.{_≡_, refl, sym, ap, _∙_, subst}
-use mathlib.Core.Bool.{Bool, true, false, not, _&&_, _||_}
-use Prim.Native.Nat.{ℕ, zero, suc, _+_, _-_, _*_, _/_, _%_, _^_, _≤_, _<_}
+use mathlib.Core.Bool.{Bool, true, false, not, _&&_}
+use Prim.Native.Nat.{ℕ, zero, suc, _+_, _*_, _/_, _%_, _^_, _≤_, _<_}
 use native.Mathlib.Omega.{arith}
 use lib.Dec.{eqb, leb, ltb}
 use mathlib.Core.List.{List}
-use borrow.Author.Tests.{ltb-false, eqb-false, leb-true, lt-leb}
+use borrow.Author.Tests.{ltb-false, eqb-false, lt-leb}
 use Rattle.refusals.specs.Limited.{Modest}
 use Rattle.refusals.specs.declared.Limits.{Limits}
 use Rattle.connectors.specs.Connectors.{Connector, classOf, isInverted, member, takes, inverts, least, greatest, names, misfits, wrongSort, wrong, later, connectorAt, sixOrSeven}

@@ -1,6 +1,6 @@
 -- Where the code marks a destination as used. Not part of what a reader has to believe.
 use Prim.Native.Nat.{ℕ, _+_, _-_}
-use mathlib.Core.List.{List, [], _∷_}
+use mathlib.Core.List.{[], _∷_}
 use lib.ListN.{getD}
 
 -- before the marks of a class: 20 Q, 64 M, 8 AQ, 64 AM

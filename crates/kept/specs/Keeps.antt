@@ -17,7 +17,7 @@ use Rattle.refusals.specs.declared.Limits.{Limits}
 use Rattle.connectors.specs.Connectors.{Connector, classOf, member, takes, inverts, least, greatest, names, namesAnalog, digitalInput, analogInput}
 use Rattle.blockfield.specs.BlockField.{mostOption, shiftRegister}
 use Rattle.fields.specs.Fields.{limitOf, placeOf}
-use Rattle.decoding.specs.Decoded.{Block, Row, Circuit, isAnalogBlock, sortsOf, indexOf}
+use Rattle.decoding.specs.Decoded.{Block, Row, Circuit, sortsOf, indexOf}
 
 -- ---- lists
 

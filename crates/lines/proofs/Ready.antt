@@ -1,20 +1,15 @@
 -- Each line of an accepted circuit is ready to be worked out: accepted-exactly gives it. Assumes nothing.
 use mathlib.Core.Path.{_≡_, refl, sym, ap, _∙_, subst}
-use mathlib.Core.Bool.{true}
-use mathlib.Core.List.{List, [], _∷_, _++_, map}
-use mathlib.Core.Logic.{_↔_}
-use Prim.Native.Nat.{ℕ, zero, suc, _+_, _-_, _*_, _≤_, _<_}
+use mathlib.Core.List.{List, [], _∷_, _++_}
+use Prim.Native.Nat.{ℕ, zero, suc, _+_, _-_, _<_}
 use native.Mathlib.Nat.{le-of-suc-le-suc}
 use native.Mathlib.Omega.{arith}
-use lib.Dec.{eqb}
-use lib.IntN.{ℤ}
 use lib.ListN.{length, getD, take, drop, length-take, length-drop, List·getD-map, List·getD-eq-default}
 use lib.Seq.{getD-take, getD-drop}
 use borrow.Author.Tests.{le-leb, lt-ltb}
 use Rattle.kinds.specs.Kinds.{kinds, kindOf, known}
 use Rattle.refusals.specs.declared.Limits.{Limits}
-use Rattle.connectors.specs.Connectors.{Connector, connectorAt, connectorsAt, digitalInput, analogInput}
-use Rattle.blockfield.specs.BlockField.{kindAt, optionAt, parametersAt}
+use Rattle.connectors.specs.Connectors.{digitalInput, analogInput}
 use Rattle.blockfield.specs.Marked.{fourOf}
 use Rattle.blockfield.proofs.Laws.{allowed-four}
 use Rattle.decoding.specs.Decoded.{Block, Circuit, blockAt}
@@ -22,13 +17,11 @@ use Rattle.decoding.specs.Held.{bare}
 use Rattle.decoding.specs.declared.Head.{Head}
 use Rattle.circuit.specs.Circuit.{verdictAt, accepted}
 use Rattle.circuit.specs.Judged.{Accepts}
-use Rattle.blocks.specs.Blocks.{prepared}
-use Rattle.blocks.specs.declared.Prepared.{Prepared}
 use Rattle.blocks.proofs.Prepares.{prepared-fit, prepared-most}
-use Rattle.kept.specs.Keeps.{All, EachAfter, Each, Bytes, Keeps, BlockKeeps, Earlier, Allowed, Refers, encode}
+use Rattle.kept.specs.Keeps.{All, EachAfter, Each, Bytes, BlockKeeps, Earlier, Allowed, Refers}
 use Rattle.kept.proofs.Rules.{are-allowed}
 use Rattle.kept.proofs.Exactly.{accepted-exactly}
-use Rattle.lines.specs.Lines.{unused, nth, classesOf, numbersOf, lineOf, Source, Ready}
+use Rattle.lines.specs.Lines.{unused, lineOf, Ready}
 
 -- ---- the lines of an accepted circuit
 

@@ -1,5 +1,5 @@
 -- Limits: the most blocks, and the greatest number of Q, AQ, M and AM.
-use Prim.Native.Nat.{ℕ, _≤_}
+use Prim.Native.Nat.{_≤_}
 use Rattle.refusals.specs.declared.Limits.{Limits}
 
 -- "0 to 400 (ours)", "Q 1..20", "AQ 1..8", "M 1..64", "AM 1..64"

@@ -1,6 +1,6 @@
 // What every judging has in common: limits, and the answer of four numbers.
 ghost use mathlib.Core.Path.{_≡_};
-ghost use Rattle.refusals.specs.Limited.{ours as oursOf, Modest};
+ghost use Rattle.refusals.specs.Limited.{ours as oursOf};
 ghost use Rattle.refusals.specs.Answers.{refusedAt, acceptedWith};
 
 // The most blocks, and the greatest number of Q, AQ, M and AM.

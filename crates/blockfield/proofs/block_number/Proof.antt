@@ -1,25 +1,18 @@
-use borrow.Author.Tests.{lt-ltb, le-ltb, le-leb, lt-leb, eq-eqb, ne-eqb, not-true, not-false}
-use mathlib.Core.Path.{_≡_, refl, sym, _∙_, ap, ap₂}
-use mathlib.Core.Bool.{Bool, true, false, not, _&&_}
-use Prim.Native.Nat.{ℕ, _+_, _<_, _≤_}
+-- `blockfield::block_number` meets its contract. Assumes nothing.
+use borrow.Author.Tests.{le-leb, lt-leb, eq-eqb, ne-eqb, not-true, not-false}
+use mathlib.Core.Path.{_≡_, sym, _∙_, ap}
+use mathlib.Core.Bool.{true, false, _&&_}
+use Prim.Native.Nat.{ℕ, _+_}
 use native.Mathlib.Omega.{arith}
 use lib.Dec.{eqb, ltb}
-use lib.ListN.{length, getD}
-use Rattle.kinds.specs.Kinds.{kindOf, known, contentLength}
-use Rattle.blockfield.specs.BlockField.{kindAt, mostOption, optionAt, wrongLength, wrongKind, blockFaults}
+use lib.ListN.{getD}
+use Rattle.kinds.specs.Kinds.{kindOf}
+use Rattle.blockfield.specs.BlockField.{mostOption, wrongLength, wrongKind, blockFaults}
 use Rattle.blockfield.specs.Marked.{indexMark}
 use Rattle.blockfield.proofs.Laws.{lent, right-length, known-rest, known-fault, known-none, restOf, wrongAt, laterAt, allowedAt, index-range, register-there}
 use borrow.Author.Needs.{needs}
 use Rattle.blockfield.proofs.block_number.Statement.{statement}
 use Rattle.blockfield.proofs.block_number.Tie as tie
-use Rattle.blockfield.proofs.block_number.Reads as reads
-use Rattle.blockfield.proofs.block_number.Lts as lts
-use Rattle.blockfield.proofs.index_mark.Reads as index-mark-reads
-use Rattle.blockfield.proofs.known_number.Reads as known-number-reads
-use Rattle.blockfield.proofs.wrong_length.Reads as wrong-length-reads
-use Rattle.blockfield.proofs.wrong_option.Reads as wrong-option-reads
-use Rattle.kinds.proofs.is_known.Reads as is-known-reads
-use Rattle.words.proofs.byte_at.Reads as byte-at-reads
 
 returns : tie.Need-returns
 unfolding blockFaults

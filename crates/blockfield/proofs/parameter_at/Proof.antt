@@ -1,12 +1,10 @@
-use mathlib.Core.Path.{_≡_, sym, _∙_}
+-- `blockfield::parameter_at` meets its contract. Assumes nothing.
+use mathlib.Core.Path.{sym, _∙_}
 use Rattle.words.proofs.Locals.{back-to}
 use Rattle.blockfield.proofs.Laws.{signed-in, signed-out}
 use borrow.Author.Needs.{needs}
 use Rattle.blockfield.proofs.parameter_at.Statement.{statement}
 use Rattle.blockfield.proofs.parameter_at.Tie as tie
-use Rattle.blockfield.proofs.parameter_at.Reads as reads
-use Rattle.blockfield.proofs.parameter_at.Lts as lts
-use Rattle.words.proofs.signed_four_at.Reads as signed-four-at-reads
 
 mul-signed-four-at : tie.Need-mul-signed-four-at
 mul-signed-four-at c = search needs

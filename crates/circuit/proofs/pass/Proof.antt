@@ -1,3 +1,4 @@
+-- `circuit::pass` meets its contract. Assumes nothing.
 use Prim.Native.Nat.{_-_}
 use lib.ListN.{length}
 use Rattle.refusals.specs.Stages.{opening}
@@ -6,9 +7,6 @@ use Rattle.decoding.proofs.Steps.{headOf}
 use Rattle.circuit.proofs.Walk.{Reached, begins, nothing-sound, nothing-held, falls, goes-on, says-refused, says-surplus, says-accepted}
 use Rattle.circuit.proofs.pass.Statement.{statement}
 use Rattle.circuit.proofs.pass.Tie as tie
-use Rattle.circuit.proofs.pass.Reads as reads
-use Rattle.circuit.proofs.pass.Lts as lts
-use Rattle.circuit.proofs.field.Reads as field-reads
 
 abbrev Inv-loop : tie.InvT-loop
 Inv-loop limits kinds circuit offsets₀ sorts₀ used₀ registers₀ at₀ head₀ offsets sorts used registers at head =

@@ -1,22 +1,14 @@
-use mathlib.Core.Path.{_≡_, refl, sym, _∙_, ap, ap₂}
-use mathlib.Core.Bool.{Bool, true, false, not, _&&_, _||_, true≢false}
-use Prim.Native.Nat.{ℕ, _%_}
+-- `connectors::connected` meets its contract. Assumes nothing.
+use mathlib.Core.Path.{sym, _∙_}
+use Prim.Native.Nat.{_%_}
 use native.Mathlib.Omega.{arith}
-use lib.Dec.{eqb, leb, ltb}
-use borrow.Author.Tests.{lt-ltb, le-ltb, lt-leb, le-leb, eq-eqb, ne-eqb, not-true, not-false}
-use Rattle.connectors.specs.Connectors.{wrong, misfits, wrongSort, later, sixOrSeven, names}
+use borrow.Author.Tests.{not-true, not-false}
+use Rattle.connectors.specs.Connectors.{wrong, misfits, wrongSort, later, sixOrSeven}
 use Rattle.connectors.specs.Named.{namedNumber}
 use Rattle.connectors.proofs.Laws.{takes-above, names-least, names-greatest}
 use borrow.Author.Needs.{needs}
 use Rattle.connectors.proofs.connected.Statement.{statement}
 use Rattle.connectors.proofs.connected.Tie as tie
-use Rattle.connectors.proofs.connected.Reads as reads
-use Rattle.connectors.proofs.connected.Lts as lts
-use Rattle.connectors.proofs.named.Reads as named-reads
-use Rattle.connectors.proofs.names_block.Reads as names-block-reads
-use Rattle.connectors.proofs.out_of_range.Reads as out-of-range-reads
-use Rattle.connectors.proofs.takes_class.Reads as takes-class-reads
-use Rattle.connectors.proofs.wrongly_inverted.Reads as wrongly-inverted-reads
 
 returns : tie.Need-returns
 unfolding wrong misfits sixOrSeven

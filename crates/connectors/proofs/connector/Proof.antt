@@ -1,14 +1,10 @@
-use mathlib.Core.Path.{_≡_, ap₂, _∙_}
+-- `connectors::connector` meets its contract. Assumes nothing.
+use mathlib.Core.Path.{ap₂, _∙_}
 use Prim.Native.Nat.{ℕ}
 use Rattle.connectors.specs.Connectors.{Connector, wrong, later, sixOrSeven}
 use borrow.Author.Needs.{needs}
 use Rattle.connectors.proofs.connector.Statement.{statement}
 use Rattle.connectors.proofs.connector.Tie as tie
-use Rattle.connectors.proofs.connector.Reads as reads
-use Rattle.connectors.proofs.connector.Lts as lts
-use Rattle.connectors.proofs.connected.Reads as connected-reads
-use Rattle.words.proofs.byte_at.Reads as byte-at-reads
-use Rattle.words.proofs.two_at.Reads as two-at-reads
 
 byte-at-requires : tie.Need-byte-at-requires
 byte-at-requires c κs = search needs

@@ -1,11 +1,9 @@
-use mathlib.Core.Path.{_≡_, sym, ap}
-use Prim.Native.Nat.{ℕ}
+-- `connectors::greatest_of` meets its contract. Assumes nothing.
+use mathlib.Core.Path.{sym, ap}
 use Rattle.connectors.specs.Connectors.{greatest}
 use Rattle.connectors.proofs.Laws.{greatest-other}
 use Rattle.connectors.proofs.greatest_of.Statement.{statement}
 use Rattle.connectors.proofs.greatest_of.Tie as tie
-use Rattle.connectors.proofs.greatest_of.Reads as reads
-use Rattle.connectors.proofs.greatest_of.Lts as lts
 
 returns : tie.Need-returns
 unfolding greatest

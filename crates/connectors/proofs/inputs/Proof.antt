@@ -1,15 +1,12 @@
+-- `connectors::inputs` meets its contract. Assumes nothing.
 use borrow.Author.Needs.{needs}
 use mathlib.Core.Path.{_≡_, _∙_, ap₂}
-use Prim.Native.Nat.{ℕ, _+_, _-_, _*_, _≤_}
+use Prim.Native.Nat.{_+_, _-_, _*_, _≤_}
 use native.Mathlib.Omega.{arith}
 use Rattle.connectors.specs.Named.{lower}
 use Rattle.connectors.proofs.Laws.{numberOf, inputs-none, inputs-more, inputs-all}
 use Rattle.connectors.proofs.inputs.Statement.{statement}
 use Rattle.connectors.proofs.inputs.Tie as tie
-use Rattle.connectors.proofs.inputs.Reads as reads
-use Rattle.connectors.proofs.inputs.Lts as lts
-use Rattle.connectors.proofs.connector.Reads as connector-reads
-use Rattle.connectors.proofs.lower.Reads as lower-reads
 
 abbrev Inv-loop : tie.InvT-loop
 Inv-loop limits bytes at count place own n sorts left₀ worst₀ left worst = (left ≤ count) × (worst ≡ numberOf limits place own n sorts bytes at count (at + 3 * left) (count - left))

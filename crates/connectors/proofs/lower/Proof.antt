@@ -1,9 +1,8 @@
+-- `connectors::lower` meets its contract. Assumes nothing.
 use borrow.Author.Tests.{eq-eqb, ne-eqb, lt-ltb, le-ltb}
 use Rattle.connectors.specs.Named.{lower}
 use Rattle.connectors.proofs.lower.Statement.{statement}
 use Rattle.connectors.proofs.lower.Tie as tie
-use Rattle.connectors.proofs.lower.Reads as reads
-use Rattle.connectors.proofs.lower.Lts as lts
 
 returns : tie.Need-returns
 unfolding lower

@@ -1,17 +1,12 @@
-use mathlib.Core.Path.{_≡_, refl, sym, _∙_, ap, ap₂}
-use mathlib.Core.Bool.{Bool, true, false, not, _&&_, _||_, true≢false}
-use Prim.Native.Nat.{ℕ, _+_, _-_, _*_, _<_, _≤_}
-use native.Mathlib.Omega.{arith}
-use lib.Dec.{eqb, leb, ltb}
-use borrow.Author.Tests.{lt-ltb, le-ltb, lt-leb, le-leb, eq-eqb, ne-eqb, not-true, not-false}
+-- `connectors::named` meets its contract. Assumes nothing.
+use mathlib.Core.Bool.{false}
+use borrow.Author.Tests.{lt-ltb, le-ltb, lt-leb, le-leb, eq-eqb, ne-eqb}
 use Rattle.connectors.specs.Connectors.{sixOrSeven}
 use Rattle.connectors.specs.Named.{namedNumber}
 use Rattle.connectors.proofs.Laws.{getD-pred}
 use borrow.Author.Needs.{needs}
 use Rattle.connectors.proofs.named.Statement.{statement}
 use Rattle.connectors.proofs.named.Tie as tie
-use Rattle.connectors.proofs.named.Reads as reads
-use Rattle.connectors.proofs.named.Lts as lts
 
 returns : tie.Need-returns
 unfolding namedNumber sixOrSeven

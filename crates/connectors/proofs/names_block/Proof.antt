@@ -1,9 +1,8 @@
+-- `connectors::names_block` meets its contract. Assumes nothing.
 use mathlib.Core.Path.{refl}
 use Rattle.connectors.specs.Connectors.{names}
 use Rattle.connectors.proofs.names_block.Statement.{statement}
 use Rattle.connectors.proofs.names_block.Tie as tie
-use Rattle.connectors.proofs.names_block.Reads as reads
-use Rattle.connectors.proofs.names_block.Lts as lts
 
 returns : tie.Need-returns
 unfolding names

@@ -1,4 +1,5 @@
-use mathlib.Core.Path.{_≡_, sym, ap, _∙_}
+-- `connectors::out_of_range` meets its contract. Assumes nothing.
+use mathlib.Core.Path.{sym, ap, _∙_}
 use Prim.Native.Nat.{ℕ}
 use lib.Dec.{ltb}
 use borrow.Author.Tests.{lt-ltb, le-ltb}
@@ -6,9 +7,6 @@ use Rattle.connectors.proofs.Laws.{least-bits}
 use borrow.Author.Needs.{needs}
 use Rattle.connectors.proofs.out_of_range.Statement.{statement}
 use Rattle.connectors.proofs.out_of_range.Tie as tie
-use Rattle.connectors.proofs.out_of_range.Reads as reads
-use Rattle.connectors.proofs.out_of_range.Lts as lts
-use Rattle.connectors.proofs.greatest_of.Reads as greatest-of-reads
 
 shr-if1 : tie.Need-shr-if1
 shr-if1 c = search needs

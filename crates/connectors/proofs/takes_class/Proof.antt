@@ -1,9 +1,8 @@
+-- `connectors::takes_class` meets its contract. Assumes nothing.
 use Rattle.connectors.proofs.Laws.{takes-bits}
 use borrow.Author.Needs.{needs}
 use Rattle.connectors.proofs.takes_class.Statement.{statement}
 use Rattle.connectors.proofs.takes_class.Tie as tie
-use Rattle.connectors.proofs.takes_class.Reads as reads
-use Rattle.connectors.proofs.takes_class.Lts as lts
 
 mul-result : tie.Need-mul-result
 mul-result c = search needs

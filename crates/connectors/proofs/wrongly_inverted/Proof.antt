@@ -1,10 +1,9 @@
+-- `connectors::wrongly_inverted` meets its contract. Assumes nothing.
 use borrow.Author.Tests.{lt-leb, le-leb}
 use Rattle.connectors.proofs.Laws.{plain-bits}
 use borrow.Author.Needs.{needs}
 use Rattle.connectors.proofs.wrongly_inverted.Statement.{statement}
 use Rattle.connectors.proofs.wrongly_inverted.Tie as tie
-use Rattle.connectors.proofs.wrongly_inverted.Reads as reads
-use Rattle.connectors.proofs.wrongly_inverted.Lts as lts
 
 returns : tie.Need-returns
 returns c = simp (lt-leb _ _ (c .if1 .taken))

@@ -1,4 +1,5 @@
-use mathlib.Core.Path.{_≡_, sym, _∙_, ap}
+-- `decoding::block` meets its contract. Assumes nothing.
+use mathlib.Core.Path.{sym, _∙_, ap}
 use Prim.Native.Nat.{ℕ, _+_, _≤_}
 use native.Mathlib.Omega.{arith}
 use lib.ListN.{length}
@@ -8,18 +9,9 @@ use Rattle.blockfield.proofs.Laws.{lent, index-range, register-there}
 use Rattle.decoding.specs.Held.{seenOf}
 use Rattle.decoding.proofs.Right.{block-right}
 use Rattle.decoding.proofs.Steps.{block-same, block-taken, faulty-judges}
-use mathlib.Core.Bool.{Bool, false}
-use Rattle.blockfield.specs.Marked.{indexMark}
 use borrow.Author.Needs.{needs}
 use Rattle.decoding.proofs.block.Statement.{statement}
 use Rattle.decoding.proofs.block.Tie as tie
-use Rattle.decoding.proofs.block.Reads as reads
-use Rattle.decoding.proofs.block.Lts as lts
-use Rattle.blockfield.proofs.block_number.Reads as block-number-reads
-use Rattle.decoding.proofs.faulty.Reads as faulty-reads
-use Rattle.decoding.proofs.mark_register.Reads as mark-register-reads
-use Rattle.kinds.proofs.is_analog.Reads as is-analog-reads
-use Rattle.words.proofs.byte_at.Reads as byte-at-reads
 
 block-number-requires : tie.Need-block-number-requires
 block-number-requires c κs = search needs

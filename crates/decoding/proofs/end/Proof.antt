@@ -1,13 +1,10 @@
-use mathlib.Core.Path.{_≡_, sym, _∙_}
+-- `decoding::end` meets its contract. Assumes nothing.
+use mathlib.Core.Path.{sym, _∙_}
 use Rattle.decoding.specs.Held.{seenOf}
 use Rattle.decoding.proofs.Steps.{end-same, end-taken, faulty-judges}
 use borrow.Author.Needs.{needs}
 use Rattle.decoding.proofs.end.Statement.{statement}
 use Rattle.decoding.proofs.end.Tie as tie
-use Rattle.decoding.proofs.end.Reads as reads
-use Rattle.decoding.proofs.end.Lts as lts
-use Rattle.decoding.proofs.faulty.Reads as faulty-reads
-use Rattle.fields.proofs.end_number.Reads as end-number-reads
 
 end-number-requires : tie.Need-end-number-requires
 end-number-requires c κs = search needs

@@ -1,4 +1,5 @@
-use mathlib.Core.Path.{_≡_, sym, _∙_}
+-- `decoding::header` meets its contract. Assumes nothing.
+use mathlib.Core.Path.{sym, _∙_}
 use native.Mathlib.Omega.{arith}
 use Rattle.decoding.specs.Held.{seenOf}
 use Rattle.decoding.proofs.Right.{header-right}
@@ -6,11 +7,6 @@ use Rattle.decoding.proofs.Steps.{header-same, header-taken, faulty-jud
 use borrow.Author.Needs.{needs}
 use Rattle.decoding.proofs.header.Statement.{statement}
 use Rattle.decoding.proofs.header.Tie as tie
-use Rattle.decoding.proofs.header.Reads as reads
-use Rattle.decoding.proofs.header.Lts as lts
-use Rattle.decoding.proofs.faulty.Reads as faulty-reads
-use Rattle.fields.proofs.header_number.Reads as header-number-reads
-use Rattle.words.proofs.two_at.Reads as two-at-reads
 
 header-number-requires : tie.Need-header-number-requires
 header-number-requires c κs = search needs

@@ -1,13 +1,10 @@
-use mathlib.Core.Path.{_≡_, sym, _∙_}
+-- `decoding::label` meets its contract. Assumes nothing.
+use mathlib.Core.Path.{sym, _∙_}
 use Rattle.decoding.specs.Held.{seenOf}
 use Rattle.decoding.proofs.Steps.{label-same, label-taken, faulty-judges}
 use borrow.Author.Needs.{needs}
 use Rattle.decoding.proofs.label.Statement.{statement}
 use Rattle.decoding.proofs.label.Tie as tie
-use Rattle.decoding.proofs.label.Reads as reads
-use Rattle.decoding.proofs.label.Lts as lts
-use Rattle.decoding.proofs.faulty.Reads as faulty-reads
-use Rattle.fields.proofs.label_number.Reads as label-number-reads
 
 label-number-requires : tie.Need-label-number-requires
 label-number-requires c κs = search needs

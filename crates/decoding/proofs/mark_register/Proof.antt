@@ -1,6 +1,6 @@
-use mathlib.Core.Path.{_≡_, sym, _∙_, ap}
-use mathlib.Core.Bool.{Bool, true, cond}
-use mathlib.Core.List.{List}
+-- `decoding::mark_register` meets its contract. Assumes nothing.
+use mathlib.Core.Path.{sym, _∙_, ap}
+use mathlib.Core.Bool.{true}
 use Prim.Native.Nat.{ℕ}
 use lib.Dec.{eqb}
 use lib.ListN.{set}
@@ -8,9 +8,6 @@ use borrow.Author.Tests.{eq-eqb, ne-eqb}
 use borrow.Author.Needs.{needs}
 use Rattle.decoding.proofs.mark_register.Statement.{statement}
 use Rattle.decoding.proofs.mark_register.Tie as tie
-use Rattle.decoding.proofs.mark_register.Reads as reads
-use Rattle.decoding.proofs.mark_register.Lts as lts
-use Rattle.blockfield.proofs.index_mark.Reads as index-mark-reads
 
 returns : tie.Need-returns
 returns c = simp (ap (λ (x : ℕ). eqb x 12) (sym (c .before .before .pre .0)) ∙ ne-eqb _ _ (c .if1 .taken))

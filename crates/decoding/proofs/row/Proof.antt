@@ -1,4 +1,5 @@
-use mathlib.Core.Path.{_≡_, sym, _∙_, ap₂}
+-- `decoding::row` meets its contract. Assumes nothing.
+use mathlib.Core.Path.{sym, _∙_, ap₂}
 use Prim.Native.Nat.{_≤_}
 use borrow.Author.Needs.{needs}
 use native.Mathlib.Omega.{arith}
@@ -9,12 +10,6 @@ use Rattle.decoding.proofs.Right.{row-right}
 use Rattle.decoding.proofs.Steps.{row-same, row-taken, faulty-judges}
 use Rattle.decoding.proofs.row.Statement.{statement}
 use Rattle.decoding.proofs.row.Tie as tie
-use Rattle.decoding.proofs.row.Reads as reads
-use Rattle.decoding.proofs.row.Lts as lts
-use Rattle.decoding.proofs.faulty.Reads as faulty-reads
-use Rattle.fields.proofs.mark_of.Reads as mark-of-reads
-use Rattle.fields.proofs.row_number.Reads as row-number-reads
-use Rattle.words.proofs.byte_at.Reads as byte-at-reads
 
 row-number-requires : tie.Need-row-number-requires
 row-number-requires c κs = search needs

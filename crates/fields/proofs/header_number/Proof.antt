@@ -1,15 +1,12 @@
-use mathlib.Core.Path.{_≡_, sym, _∙_, ap}
-use Prim.Native.Nat.{ℕ, _+_}
+-- `fields::header_number` meets its contract. Assumes nothing.
+use mathlib.Core.Path.{sym, _∙_, ap}
+use Prim.Native.Nat.{ℕ}
 use lib.Dec.{eqb, ltb}
 use borrow.Author.Tests.{lt-ltb, le-ltb, eq-eqb, ne-eqb}
 use Rattle.fields.specs.Fields.{headerFaults}
 use borrow.Author.Needs.{needs}
 use Rattle.fields.proofs.header_number.Statement.{statement}
 use Rattle.fields.proofs.header_number.Tie as tie
-use Rattle.fields.proofs.header_number.Reads as reads
-use Rattle.fields.proofs.header_number.Lts as lts
-use Rattle.words.proofs.byte_at.Reads as byte-at-reads
-use Rattle.words.proofs.two_at.Reads as two-at-reads
 
 returns : tie.Need-returns
 unfolding headerFaults

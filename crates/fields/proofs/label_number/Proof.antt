@@ -1,9 +1,8 @@
+-- `fields::label_number` meets its contract. Assumes nothing.
 use borrow.Author.Tests.{lt-ltb, le-ltb, eq-eqb, ne-eqb}
 use Rattle.fields.specs.Fields.{labelFaults}
 use Rattle.fields.proofs.label_number.Statement.{statement}
 use Rattle.fields.proofs.label_number.Tie as tie
-use Rattle.fields.proofs.label_number.Reads as reads
-use Rattle.fields.proofs.label_number.Lts as lts
 
 returns : tie.Need-returns
 unfolding labelFaults

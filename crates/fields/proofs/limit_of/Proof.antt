@@ -1,10 +1,9 @@
-use mathlib.Core.Path.{_≡_, sym, ap}
+-- `fields::limit_of` meets its contract. Assumes nothing.
+use mathlib.Core.Path.{sym, ap}
 use Rattle.fields.specs.Fields.{limitOf}
 use Rattle.fields.proofs.Laws.{limit-other}
 use Rattle.fields.proofs.limit_of.Statement.{statement}
 use Rattle.fields.proofs.limit_of.Tie as tie
-use Rattle.fields.proofs.limit_of.Reads as reads
-use Rattle.fields.proofs.limit_of.Lts as lts
 
 returns : tie.Need-returns
 unfolding limitOf

@@ -1,12 +1,10 @@
-use mathlib.Core.Path.{_≡_, ap}
+-- `fields::mark_of` meets its contract. Assumes nothing.
+use mathlib.Core.Path.{ap}
 use Prim.Native.Nat.{ℕ, _+_, _-_}
 use native.Mathlib.Omega.{arith}
-use Rattle.fields.specs.Marks.{mark}
 use Rattle.fields.proofs.Laws.{known-destination, class-below, mark-below, base-bits}
 use Rattle.fields.proofs.mark_of.Statement.{statement}
 use Rattle.fields.proofs.mark_of.Tie as tie
-use Rattle.fields.proofs.mark_of.Reads as reads
-use Rattle.fields.proofs.mark_of.Lts as lts
 
 mul-result : tie.Need-mul-result
 mul-result c =

@@ -1,11 +1,10 @@
-use mathlib.Core.Path.{_≡_, sym, ap}
+-- `fields::place_of` meets its contract. Assumes nothing.
+use mathlib.Core.Path.{sym}
 use native.Mathlib.Omega.{arith}
 use Rattle.fields.proofs.Laws.{place-bits, place-above, place-below}
 use borrow.Author.Needs.{needs}
 use Rattle.fields.proofs.place_of.Statement.{statement}
 use Rattle.fields.proofs.place_of.Tie as tie
-use Rattle.fields.proofs.place_of.Reads as reads
-use Rattle.fields.proofs.place_of.Lts as lts
 
 returns : tie.Need-returns
 returns c = (sym (place-above (c .before .args .class) (c .if1 .taken)), omega arith)

@@ -1,8 +1,8 @@
-use mathlib.Core.Path.{_≡_, refl, sym, _∙_, ap, ap₂}
-use mathlib.Core.Bool.{Bool, true, false}
+-- `fields::row_number` meets its contract. Assumes nothing.
+use mathlib.Core.Path.{_≡_, sym, _∙_, ap, ap₂}
+use mathlib.Core.Bool.{true, false}
 use Prim.Native.Nat.{ℕ, _+_, _<_}
 use native.Mathlib.Omega.{arith}
-use lib.Dec.{eqb, ltb}
 use lib.ListN.{getD}
 use borrow.Author.Tests.{lt-ltb, le-ltb, eq-eqb, ne-eqb}
 use Rattle.fields.specs.Fields.{unknown, rowFaults, classAt, numberIn}
@@ -11,13 +11,6 @@ use Rattle.fields.proofs.Laws.{row-wrong, row-right}
 use borrow.Author.Needs.{needs}
 use Rattle.fields.proofs.row_number.Statement.{statement}
 use Rattle.fields.proofs.row_number.Tie as tie
-use Rattle.fields.proofs.row_number.Reads as reads
-use Rattle.fields.proofs.row_number.Lts as lts
-use Rattle.connectors.proofs.connector.Reads as connector-reads
-use Rattle.fields.proofs.is_unknown.Reads as is-unknown-reads
-use Rattle.fields.proofs.mark_of.Reads as mark-of-reads
-use Rattle.fields.proofs.place_of.Reads as place-of-reads
-use Rattle.words.proofs.byte_at.Reads as byte-at-reads
 
 returns : tie.Need-returns
 unfolding rowFaults

@@ -1,12 +1,10 @@
-use mathlib.Core.Path.{_≡_, sym, _∙_, ap}
+-- `lines::class_at` meets its contract. Assumes nothing.
+use mathlib.Core.Path.{sym, _∙_, ap}
 use Rattle.connectors.specs.Connectors.{Connector}
 use Rattle.lines.proofs.Laws.{connector-in, connector-out}
 use borrow.Author.Needs.{needs}
 use Rattle.lines.proofs.class_at.Statement.{statement}
 use Rattle.lines.proofs.class_at.Tie as tie
-use Rattle.lines.proofs.class_at.Reads as reads
-use Rattle.lines.proofs.class_at.Lts as lts
-use Rattle.words.proofs.byte_at.Reads as byte-at-reads
 
 mul-byte-at : tie.Need-mul-byte-at
 mul-byte-at c = search needs

@@ -1,30 +1,16 @@
-use mathlib.Core.Path.{_≡_, refl, sym, _∙_, ap, ap₂, subst}
+-- `lines::line_at` meets its contract. Assumes nothing.
+use mathlib.Core.Path.{_≡_, sym, _∙_, ap, ap₂, subst}
 use mathlib.Core.Bool.{true}
-use Prim.Native.Nat.{ℕ, _+_, _*_, _≤_}
+use Prim.Native.Nat.{ℕ, _+_, _≤_}
 use native.Mathlib.Omega.{arith}
-use lib.Dec.{eqb}
 use lib.ListN.{length}
-use lib.IntN.{ℤ}
 use Rattle.kinds.specs.Kinds.{kindOf, known, contentLength, allowed}
-use Rattle.connectors.specs.Connectors.{Connector, connectorsAt}
 use Rattle.blockfield.specs.BlockField.{parametersAt}
-use Rattle.blockfield.specs.Marked.{fourOf}
 use Rattle.blockfield.proofs.Laws.{lent, allowed-four}
-use Rattle.blocks.specs.Blocks.{prepared}
-use Rattle.lines.specs.Lines.{classesOf, numbersOf, lineOf}
 use Rattle.lines.proofs.Laws.{line-read}
 use borrow.Author.Needs.{needs}
 use Rattle.lines.proofs.line_at.Statement.{statement}
 use Rattle.lines.proofs.line_at.Tie as tie
-use Rattle.lines.proofs.line_at.Reads as reads
-use Rattle.lines.proofs.line_at.Lts as lts
-use Rattle.blockfield.proofs.parameters_at.Reads as parameters-at-reads
-use Rattle.blocks.proofs.prepare.Reads as prepare-reads
-use Rattle.kinds.proofs.analog_inputs.Reads as analog-inputs-reads
-use Rattle.kinds.proofs.digital_inputs.Reads as digital-inputs-reads
-use Rattle.lines.proofs.classes_at.Reads as classes-at-reads
-use Rattle.lines.proofs.numbers_at.Reads as numbers-at-reads
-use Rattle.words.proofs.byte_at.Reads as byte-at-reads
 
 add-byte-at : tie.Need-add-byte-at
 add-byte-at c = search needs

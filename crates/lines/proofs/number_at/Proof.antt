@@ -1,12 +1,10 @@
-use mathlib.Core.Path.{_≡_, sym, _∙_, ap}
+-- `lines::number_at` meets its contract. Assumes nothing.
+use mathlib.Core.Path.{sym, _∙_, ap}
 use Rattle.connectors.specs.Connectors.{Connector}
 use Rattle.lines.proofs.Laws.{connector-in, connector-out}
 use borrow.Author.Needs.{needs}
 use Rattle.lines.proofs.number_at.Statement.{statement}
 use Rattle.lines.proofs.number_at.Tie as tie
-use Rattle.lines.proofs.number_at.Reads as reads
-use Rattle.lines.proofs.number_at.Lts as lts
-use Rattle.words.proofs.two_at.Reads as two-at-reads
 
 mul-two-at : tie.Need-mul-two-at
 mul-two-at c = search needs
