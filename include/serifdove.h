@@ -65,7 +65,7 @@ typedef struct {
 /* Checks a circuit: `length` bytes from `circuit` on. It answers every byte string, with 0 or with one of 1 to 11.
    Accepted: first is the number of blocks, second the number of rows.
    It reads no byte outside these, writes none, keeps nothing between calls, and may run in any number of threads at once.
-   A null pointer with length 0 is an empty circuit. How much stack it takes at most: docs/PERFORMANCE.md. */
+   A null pointer with length 0 is an empty circuit. How much stack it was measured to take: docs/PERFORMANCE.md. */
 serifdove_answer serifdove_check(const uint8_t *circuit, size_t length);
 
 #ifdef __cplusplus

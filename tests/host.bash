@@ -40,13 +40,14 @@ need_cxx() {
     if [ "$emulated" = no ]; then need g++ g++; else need "$cxx" g++-x86-64-linux-gnu; fi
 }
 
-newer_source() {
-    find crates crates.txt -newer "$archive" -print -quit
+# is_stale FILE: it is missing, or older than a source
+is_stale() {
+    [ ! -f "$1" ] || [ -n "$(find crates crates.txt -newer "$1" -print -quit)" ]
 }
 
 # Makes the archive where it is missing or older than a source. SERIFDOVE_ARCHIVE names another one, taken as it is.
 need_archive() {
-    if [ -z "${SERIFDOVE_ARCHIVE:-}" ] && { [ ! -f "$archive" ] || [ -n "$(newer_source)" ]; }; then
+    if [ -z "${SERIFDOVE_ARCHIVE:-}" ] && is_stale "$archive"; then
         echo "host: rt staticlib serifdove"
         rt staticlib serifdove >"$work/archive" 2>&1 || { cat "$work/archive" && exit 1; }
     fi
