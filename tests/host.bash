@@ -17,23 +17,29 @@ else
     runner=(qemu-x86_64 -L /usr/x86_64-linux-gnu)
 fi
 
-# need COMMAND PACKAGE..: installs Debian packages where a command is missing
-need() {
-    command -v "$1" >/dev/null 2>&1 && return
-    echo "host: installing ${*:2}"
+# install PACKAGE..: Debian packages
+install() {
+    echo "host: installing $*"
     export DEBIAN_FRONTEND=noninteractive
-    { apt-get update && apt-get -o DPkg::Lock::Timeout=300 install -y "${@:2}"; } >"$work/apt" 2>&1 && return
+    { apt-get update && apt-get -o DPkg::Lock::Timeout=300 install -y "$@"; } >"$work/apt" 2>&1 </dev/null && return
     tail -n 20 "$work/apt"
     exit 2
 }
 
+# need COMMAND PACKAGE..: installs them where the command is missing
+need() {
+    command -v "$1" >/dev/null 2>&1 || install "${@:2}"
+}
+
+# what runs a program
+need_runner() {
+    [ "$emulated" = no ] || need qemu-x86_64 qemu-user
+    [ "$emulated" = no ] || [ -d /usr/x86_64-linux-gnu ] || install libc6-amd64-cross
+}
+
 need_c() {
-    if [ "$emulated" = no ]; then
-        need gcc gcc libc6-dev
-    else
-        need "$cc" gcc-x86-64-linux-gnu libc6-dev-amd64-cross
-        need qemu-x86_64 qemu-user
-    fi
+    need_runner
+    if [ "$emulated" = no ]; then need gcc gcc libc6-dev; else need "$cc" gcc-x86-64-linux-gnu libc6-dev-amd64-cross; fi
 }
 
 need_cxx() {
@@ -49,10 +55,18 @@ is_stale() {
 need_archive() {
     if [ -z "${SERIFDOVE_ARCHIVE:-}" ] && is_stale "$archive"; then
         echo "host: rt staticlib serifdove"
-        rt staticlib serifdove >"$work/archive" 2>&1 || { cat "$work/archive" && exit 1; }
+        rt staticlib serifdove >"$work/archive" 2>&1 </dev/null || { cat "$work/archive" && exit 1; }
     fi
     [ -f "$archive" ] || { echo "host: there is no $archive" && exit 1; }
     echo "host: $archive, $("$cc" --version | head -n 1), emulated: $emulated"
+}
+
+# Makes the program check_circuit, likewise.
+program=target/bin/check_circuit
+need_program() {
+    is_stale "$program" || return 0
+    echo "host: rt check check_circuit"
+    rt check check_circuit >"$work/program" 2>&1 </dev/null || { cat "$work/program" && exit 1; }
 }
 
 # build_c OUT FILE..: a program of these C files and the archive

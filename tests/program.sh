@@ -1,12 +1,8 @@
 #!/usr/bin/env bash
 # The program check_circuit: document 01's lines, its limit of 65,536 bytes, and that anything at all gets one line and status 0.
 source "$(dirname "${BASH_SOURCE[0]}")/host.bash"
-need_c
-program=target/bin/check_circuit
-if is_stale "$program"; then
-    echo "host: rt check check_circuit"
-    rt check check_circuit >"$work/check" 2>&1 || { cat "$work/check" && exit 1; }
-fi
+need_runner
+need_program
 
 # says LINE: what the program prints of standard input, to the byte, with status 0
 says() {
@@ -37,6 +33,17 @@ says '1 0 0 0' </dev/null || exit 1
 { document_01 '\x01\x00\x01' && head -c $((65536 - 34)) /dev/zero; } | says '11 34 0 0' || exit 1
 { document_01 '\x01\x00\x01' && head -c $((65537 - 34)) /dev/zero; } | says 'too long' || exit 1
 head -c 1000000 /dev/zero | says 'too long' || exit 1
+
+# the script around it: a file, standard input, help, and words that are wrong
+document_01 '\x06\x00\x01' >"$work/own_block"
+[ "$(./check_circuit "$work/own_block" 2>"$work/errors")" = '7 6 0 0' ] || { cat "$work/errors" && exit 1; }
+[ "$(./check_circuit <"$work/own_block" 2>"$work/errors")" = '7 6 0 0' ] || { cat "$work/errors" && exit 1; }
+./check_circuit --help | grep -q '^usage: ' || exit 1
+for words in "$work/there_is_none" "$work" "$work/own_block $work/own_block"; do
+    ./check_circuit $words >"$work/line" 2>"$work/errors"
+    [ $? -eq 2 ] && [ ! -s "$work/line" ] && [ -s "$work/errors" ] || { echo "program: no error for: $words" && exit 1; }
+done
+echo "program: the script"
 
 # a slow writer: the circuit in parts
 { document_01 '\x01\x00\x01' | head -c 7 && sleep 1 && document_01 '\x01\x00\x01' | tail -c +8; } | says '0 0 1 1' || exit 1
