@@ -67,6 +67,7 @@ need_program() {
     is_stale "$program" || return 0
     echo "host: rt check check_circuit"
     rt check check_circuit >"$work/program" 2>&1 </dev/null || { cat "$work/program" && exit 1; }
+    touch "$program"
 }
 
 # build_c OUT FILE..: a program of these C files and the archive

@@ -9,6 +9,7 @@ use lib.Dec.{eqb, leb, ltb}
 use lib.ListN.{length}
 use lib.IntN.{ℤ, pos}
 use borrow.Author.Tests.{eq-eqb, ne-eqb, lt-leb, eqb-true, ltb-true, not-false}
+use Rattle.words.proofs.Bounds.{and-true}
 use Rattle.words.specs.Signed.{Between}
 use Rattle.kinds.specs.Kinds.{Kind, kinds, kindOf, known, contentLength, parameter, rangesFit, settingsFit, allowed, scaled, timed, indexed, chosen}
 use Rattle.kinds.specs.Table.{kindsTable, Lent}
@@ -17,7 +18,7 @@ use Rattle.kinds.proofs.Rows.{each-kind, small-kind}
 use Rattle.refusals.specs.Faults.{lowest}
 use Rattle.refusals.specs.declared.Limits.{Limits}
 use Rattle.connectors.specs.Connectors.{sixOrSeven, wrong}
-use Rattle.connectors.proofs.Laws.{and-right, none-wrong, none-later}
+use Rattle.connectors.proofs.Laws.{none-wrong, none-later}
 use Rattle.blockfield.specs.BlockField.{kindAt, optionAt, digitalsAt, analogsAt, parametersFrom, parametersAt, signedAt, signedsAt, wrongLength, mostOption, wrongKind, wrongInputs, laterInputs, indexFrom, shiftRegister, blockFaults}
 use Rattle.blockfield.specs.Marked.{fourOf, knownFaults}
 
@@ -25,7 +26,7 @@ use Rattle.blockfield.specs.Marked.{fourOf, knownFaults}
 
 pub known-below : (kind : ℕ) → known kind ≡ true → kind < 17
 unfolding known kinds
-known-below kind e = ltb-true kind 17 (and-right (leb 1 kind) (ltb kind 17) e)
+known-below kind e = ltb-true kind 17 (and-true (leb 1 kind) (ltb kind 17) e .1)
 
 pub lent : (table : List (List ℤ)) (kind : ℕ) → table ≡ kindsTable → known kind ≡ true → Lent table kind
 lent table kind t e = record { table-is = t; has-row = known-below kind e }

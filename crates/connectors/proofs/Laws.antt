@@ -1,6 +1,6 @@
 -- Laws of tests, of classes and of the numbers of several connectors. Assumes nothing.
 use mathlib.Core.Path.{_≡_, refl, ap, sym, _∙_}
-use mathlib.Core.Bool.{Bool, true, false, not, _&&_, _||_, cond, true≢false, false≢true}
+use mathlib.Core.Bool.{Bool, true, false, not, _&&_, _||_, cond, true≢false}
 use mathlib.Core.List.{List, [], _∷_}
 use Prim.Native.Nat.{ℕ, zero, suc, _+_, _-_, _*_, _/_, _%_, _^_, _≤_, _<_}
 use native.Mathlib.Nat.{sub-self, not-suc-le-zero, le-of-suc-le-suc}
@@ -8,6 +8,7 @@ use native.Mathlib.Omega.{arith}
 use lib.Dec.{eqb, leb}
 use lib.ListN.{getD}
 use borrow.Author.Tests.{ne-eqb, eqb-true, leb-true}
+use Rattle.words.proofs.Bounds.{and-true}
 use Rattle.refusals.specs.declared.Limits.{Limits}
 use Rattle.connectors.specs.Connectors.{member, takes, inverts, names, least, greatest, connectorAt, connectorsAt, wrong, later, anyOf, sixOrSeven}
 use Rattle.connectors.specs.Named.{lower}
@@ -22,14 +23,6 @@ pub or-false-right : (a b : Bool) → (a || b) ≡ false → b ≡ false
 or-false-right true b e = absurd (true≢false e)
 or-false-right false b e = e
 
-pub and-left : (a b : Bool) → (a && b) ≡ true → a ≡ true
-and-left true b e = refl
-and-left false b e = e
-
-pub and-right : (a b : Bool) → (a && b) ≡ true → b ≡ true
-and-right true b e = e
-and-right false b e = absurd (false≢true e)
-
 one-test : (b : Bool) → eqb (cond b 1 0) 1 ≡ b
 one-test true = refl
 one-test false = refl
@@ -41,9 +34,9 @@ alike (suc n) f g = eqb (f zero) (g zero) && alike n (λ k. f (suc k)) (λ k. g 
 
 pub same-at : (n : ℕ) (f g : ℕ → ℕ) → alike n f g ≡ true → (k : ℕ) → k < n → f k ≡ g k
 same-at zero f g e k h = absurd (not-suc-le-zero h)
-same-at (suc n) f g e zero h = eqb-true (f zero) (g zero) (and-left (eqb (f zero) (g zero)) _ e)
+same-at (suc n) f g e zero h = eqb-true (f zero) (g zero) (and-true (eqb (f zero) (g zero)) _ e .0)
 same-at (suc n) f g e (suc k) h =
-    same-at n (λ j. f (suc j)) (λ j. g (suc j)) (and-right (eqb (f zero) (g zero)) _ e) k (le-of-suc-le-suc h)
+    same-at n (λ j. f (suc j)) (λ j. g (suc j)) (and-true (eqb (f zero) (g zero)) _ e .1) k (le-of-suc-le-suc h)
 
 -- ---- classes
 
@@ -56,9 +49,9 @@ member-above : (m k : ℕ) (l : List ℕ) → upTo m l ≡ true → m < k → me
 unfolding member
 member-above m k [] e h = refl
 member-above m k (x ∷ l) e h =
-    let le : x ≤ m = leb-true x m (and-left (leb x m) (upTo m l) e) in
+    let le : x ≤ m = leb-true x m (and-true (leb x m) (upTo m l) e .0) in
     let ne : (k ≡ x → ⊥) = λ q. omega arith in
-    simp (ne-eqb k x ne) (member-above m k l (and-right (leb x m) (upTo m l) e) h)
+    simp (ne-eqb k x ne) (member-above m k l (and-true (leb x m) (upTo m l) e .1) h)
 
 takes-up : (place : ℕ) → upTo 9 (takes place) ≡ true
 unfolding takes

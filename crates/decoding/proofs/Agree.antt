@@ -9,11 +9,11 @@ use lib.Dec.{eqb, leb, ltb}
 use lib.ListN.{getD, take}
 use lib.Seq.{getD-take}
 use borrow.Author.Tests.{eqb-true, ltb-true}
+use Rattle.words.proofs.Bounds.{and-true}
 use Rattle.kinds.specs.Kinds.{kindOf, allowed}
 use Rattle.refusals.specs.Faults.{lowest}
 use Rattle.refusals.specs.declared.Limits.{Limits}
 use Rattle.connectors.specs.Connectors.{Connector, classOf, names, namesAnalog, unknownRow, digitalInput, analogInput, connectorAt, misfits, wrongSort, wrong, anyOf}
-use Rattle.connectors.proofs.Laws.{and-right}
 use Rattle.blockfield.specs.BlockField.{kindAt, optionAt, digitalsAt, analogsAt, parametersAt, wrongLength, wrongKind, wrongInputs, laterInputs, shiftRegister, blockFaults}
 use Rattle.fields.specs.Fields.{placeOf, unknown, classAt, numberIn, rowFaults}
 
@@ -47,7 +47,7 @@ module _ (limits : Limits) (count n : ℕ) (sorts : List Bool) where
       (and-agree (names k && ltb (c .number) (count + 1))
       (not (eqb place unknownRow) && not (Bool·beq (getD (false ∷ sorts) (c .number) false) (namesAnalog k)))
       (not (eqb place unknownRow) && not (Bool·beq (getD (false ∷ take count sorts) (c .number) false) (namesAnalog k)))
-      (λ e. ap (λ (x : Bool). not (eqb place unknownRow) && not (Bool·beq x (namesAnalog k))) (sort-agree (c .number) (and-right (names k) _ e))))
+      (λ e. ap (λ (x : Bool). not (eqb place unknownRow) && not (Bool·beq x (namesAnalog k))) (sort-agree (c .number) (and-true (names k) _ e .1))))
 
   inputs-agree : (digitals analogs : List Connector) → wrongInputs limits (count + 1) n sorts digitals analogs ≡ wrongInputs limits (count + 1) n (take count sorts) digitals analogs
   unfolding wrongInputs

@@ -9,9 +9,9 @@ use lib.ListN.{length, getD, set}
 use lib.Seq.{getD-set-same, getD-set-other}
 use lib.IntN.{ℤ, pos}
 use borrow.Author.Tests.{lt-ltb, le-ltb, le-leb, eq-eqb, ne-eqb, eqb-true, eqb-false, leb-true}
+use Rattle.words.proofs.Bounds.{and-true}
 use Rattle.refusals.specs.Limited.{Modest}
 use Rattle.refusals.specs.declared.Limits.{Limits}
-use Rattle.connectors.proofs.Laws.{and-left, and-right}
 use Rattle.blockfield.specs.BlockField.{shiftRegister}
 use Rattle.fields.specs.Fields.{limitOf}
 use Rattle.fields.specs.Marks.{base, mark}
@@ -96,8 +96,8 @@ module _ (limits : Limits) (modest : Modest limits) where
 
       go : (b : Bool) → (eqb (r .class) c && eqb (r .number) m) ≡ b → getD (set used i true) (mark c m) false ≡ (destinationUsed c m rows || (eqb (r .class) c && eqb (r .number) m))
       go true e =
-          let p : r .class ≡ c = eqb-true _ _ (and-left (eqb (r .class) c) (eqb (r .number) m) e) in
-          let q : r .number ≡ m = eqb-true _ _ (and-right (eqb (r .class) c) (eqb (r .number) m) e) in
+          let p : r .class ≡ c = eqb-true _ _ (and-true (eqb (r .class) c) (eqb (r .number) m) e .0) in
+          let q : r .number ≡ m = eqb-true _ _ (and-true (eqb (r .class) c) (eqb (r .number) m) e .1) in
           let j : mark c m ≡ i = ap₂ mark (sym p) (sym q) in
           let b : i < length used = subst (λ (k : ℕ). i < k) (sym long) (mark-below limits (r .class) (r .number) modest d) in
           ap (λ (k : ℕ). getD (set used i true) k false) j

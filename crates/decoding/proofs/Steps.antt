@@ -61,7 +61,7 @@ rows-more s at (suc k) =
 
 -- ---- a label changes nothing else
 
-labelled-length : (x : List ℕ) (l : List Block) → length (labelled x l) ≡ length l
+pub labelled-length : (x : List ℕ) (l : List Block) → length (labelled x l) ≡ length l
 unfolding labelled
 labelled-length x [] = refl
 labelled-length x (b ∷ []) = refl

@@ -18,6 +18,7 @@ use Rattle.refusals.specs.Faults.{Fault, lowest}
 use Rattle.refusals.specs.Stages.{opening, afterBlock, amongRows}
 use Rattle.refusals.specs.declared.Limits.{Limits}
 use Rattle.connectors.specs.Connectors.{Connector, connectorAt, connectorsAt, classOf, unknownRow, digitalInput, analogInput, wrong, later, anyOf}
+use Rattle.connectors.proofs.Laws.{names-greatest}
 use Rattle.blockfield.specs.BlockField.{kindAt, digitalsAt, analogsAt, parametersAt, parametersFrom, signedAt, signedsAt, wrongLength, wrongKind, wrongInputs, laterInputs, shiftRegister, blockFaults}
 use Rattle.fields.specs.Fields.{headerFaults, labelFaults, rowFaults, endFaults, limitOf, placeOf, unknown, classAt, numberIn}
 use Rattle.decoding.specs.Decoded.{Block, Row, sortsOf, indexOf, indexUsed, destinationUsed, blockAt, rowAt}
@@ -25,7 +26,7 @@ use Rattle.kept.specs.Keeps.{Bytes, All, Refers, Allowed, BlockKeeps, Ea
 use Rattle.kept.proofs.Tests.{or-false, and-true, and-false, not-is, none-holds}
 use Rattle.kept.proofs.Lists.{all-append, all-first, all-other, all-map, all-both}
 use Rattle.kept.proofs.Codec.{number-small, signed-fits}
-use Rattle.kept.proofs.Rules.{is-allowed, refers, not-wrong, not-later, named-most, none-of, right-parameters, are-allowed, known-class, apart, once}
+use Rattle.kept.proofs.Rules.{is-allowed, refers, not-wrong, not-later, none-of, right-parameters, are-allowed, known-class, apart, once}
 
 -- ---- header, label, end
 
@@ -125,7 +126,7 @@ module _ (limits : Limits) (s : List ℕ) (at size stage n : ℕ) (blocks : List
         keeps = record { low = l; high = h; fits = small (at + 4); from = from };
         source =
             refers limits place n blocks source-at (known-class limits (classAt s at) (numberIn s at) l h .1) (none .1 .1 .0)
-            (λ q. let top = named-most limits n (classOf source-at) q in let high = from .high in omega arith);
+            (λ q. let top = names-greatest limits n (classOf source-at) q in let high = from .high in omega arith);
         once = once (rowAt s at) rows .0 (d .1);
       }
 

@@ -92,12 +92,6 @@ labelled-last x [] b = refl
 labelled-last x (a ∷ []) b = refl
 labelled-last x (a ∷ c ∷ l) b = ap (λ m. a ∷ m) (labelled-last x (c ∷ l) b)
 
-pub labelled-length : (x : List ℕ) (l : List Block) → length (labelled x l) ≡ length l
-unfolding labelled
-labelled-length x [] = refl
-labelled-length x (b ∷ []) = refl
-labelled-length x (b ∷ c ∷ l) = ap suc (labelled-length x (c ∷ l))
-
 with-label : (limits : Limits) (n : ℕ) (b : Block) (x : List ℕ) → Label x → BlockKeeps limits n b → BlockKeeps limits n (withLabel x b)
 with-label limits n b x l k =
     record {

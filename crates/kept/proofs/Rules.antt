@@ -1,7 +1,7 @@
 -- The tests of a connector, of parameters, of an index and of a destination against the rules that they stand for. Assumes nothing.
 use mathlib.Core.Path.{_≡_, refl, ap, _∙_}
 use mathlib.Core.Logic.{_↔_}
-use mathlib.Core.Bool.{Bool, true, false, not, _&&_, _||_, false≢true}
+use mathlib.Core.Bool.{Bool, true, false, not, _&&_}
 use mathlib.Core.List.{List, [], _∷_}
 use Prim.Native.Nat.{ℕ, zero, suc, _+_, _≤_, _<_}
 use native.Mathlib.Omega.{arith}
@@ -20,7 +20,7 @@ use Rattle.kinds.specs.Kinds.{Range, In, _to_, kindOf, parameter, settingsFit, 
 use Rattle.kinds.proofs.Rows.{small-kind}
 use Rattle.kinds.proofs.Allowed.{param-in}
 use Rattle.refusals.specs.declared.Limits.{Limits}
-use Rattle.connectors.specs.Connectors.{Connector, classOf, isInverted, member, takes, inverts, least, greatest, names, unknownRow, misfits, wrongSort, wrong, later, anyOf}
+use Rattle.connectors.specs.Connectors.{Connector, classOf, isInverted, member, takes, inverts, least, names, unknownRow, misfits, wrongSort, wrong, later, anyOf}
 use Rattle.blockfield.specs.BlockField.{shiftRegister}
 use Rattle.fields.specs.Fields.{limitOf, placeOf}
 use Rattle.decoding.specs.Decoded.{Block, Row, sortsOf, indexOf, same, indexUsed, destinationUsed}
@@ -88,16 +88,6 @@ not-later count c = (
   λ e h. let l : c .number < count + 1 = leb-false _ _ (and-false (names (classOf c)) _ .0 e h) in omega arith,
   λ f. and-false (names (classOf c)) _ .1 (λ h. let l = f h in let m : c .number < count + 1 = omega arith in lt-leb _ _ m),
 )
-
--- of a class that names a block, no number is above n
-pub named-most : (limits : Limits) (n k : ℕ) → names k ≡ true → greatest limits n k ≡ n
-unfolding names greatest
-named-most limits n k e = by (eqb k 6) (eqb k 9) refl refl e
-  where
-    by : (a b : Bool) → eqb k 6 ≡ a → eqb k 9 ≡ b → (a || b) ≡ true → greatest limits n k ≡ n
-    by true b p q e = ap (greatest limits n) (eqb-true k 6 p)
-    by false true p q e = ap (greatest limits n) (eqb-true k 9 q)
-    by false false p q e = absurd (false≢true e)
 
 pub none-of : (f : Connector → Bool) (l : List Connector) → (anyOf f l ≡ false) ↔ All (λ c. f c ≡ false) l
 unfolding anyOf

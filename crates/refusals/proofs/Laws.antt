@@ -1,11 +1,12 @@
 -- The first number that holds is the lowest where the numbers rise; our limits are modest. Assumes nothing.
 use mathlib.Core.Path.{_≡_, refl}
-use mathlib.Core.Bool.{Bool, true, false, _&&_, false≢true}
+use mathlib.Core.Bool.{Bool, true, false, false≢true}
 use mathlib.Core.List.{List, [], _∷_}
 use Prim.Native.Nat.{ℕ, _≤_}
 use native.Mathlib.Omega.{arith}
 use borrow.Author.Tests.{leb-true}
 use lib.Dec.{leb}
+use Rattle.words.proofs.Bounds.{and-true}
 use Rattle.refusals.specs.Faults.{Fault, lowest, risesFrom, rises}
 use Rattle.refusals.specs.Limited.{ours, Modest}
 
@@ -14,15 +15,11 @@ abbrev pub AtMost : ℕ → List Fault → Type 0
 AtMost k [] = Unit {0}
 AtMost k (f ∷ l) = (f .holds ≡ true → k ≤ f .number) × AtMost k l
 
-and-both : (a b : Bool) → (a && b) ≡ true → (a ≡ true) × (b ≡ true)
-and-both true b e = (refl, e)
-and-both false b e = absurd (false≢true e)
-
 -- what rises from a number on is not below it
 from-on : (k j : ℕ) (l : List Fault) → j ≤ k → risesFrom k l ≡ true → AtMost j l
 from-on k j [] h e = tt
 from-on k j (f ∷ l) h e =
-    let both = and-both (leb k (f .number)) (risesFrom (f .number) l) e in
+    let both = and-true (leb k (f .number)) (risesFrom (f .number) l) e in
     let low : k ≤ f .number = leb-true k (f .number) (both .0) in
     let lower : j ≤ f .number = omega arith in
     (λ x. lower, from-on (f .number) j l lower (both .1))
@@ -37,7 +34,7 @@ one-more f l e below = go (f .holds) refl
 least-from : (k : ℕ) (l : List Fault) → risesFrom k l ≡ true → AtMost (lowest l) l
 least-from k [] e = tt
 least-from k (f ∷ l) e =
-    let on = and-both (leb k (f .number)) (risesFrom (f .number) l) e .1 in
+    let on = and-true (leb k (f .number)) (risesFrom (f .number) l) e .1 in
     one-more f l on (least-from (f .number) l on)
 
 -- "the lowest number that holds"
