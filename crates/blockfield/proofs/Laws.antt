@@ -15,6 +15,7 @@ use Rattle.kinds.specs.Kinds.{Kind, kinds, kindOf, known, contentLength, parame
 use Rattle.kinds.specs.Table.{kindsTable, Lent}
 use Rattle.kinds.proofs.Allowed.{param-in}
 use Rattle.kinds.proofs.Rows.{each-kind, small-kind}
+use Rattle.refusals.specs.Stages.{opening, amongRows}
 use Rattle.refusals.specs.Faults.{lowest}
 use Rattle.refusals.specs.declared.Limits.{Limits}
 use Rattle.connectors.specs.Connectors.{sixOrSeven, wrong}
@@ -142,17 +143,50 @@ none-wrongly false true d k q z = let x : ⊥ = omega arith in absurd x
 none-wrongly false false true k q z = (refl, refl, refl)
 none-wrongly false false false k q z = let x : ⊥ = omega arith in absurd x
 
-module _ (limits : Limits) (s : List ℕ) (at kind own n : ℕ) (sorts : List Bool) (fault : ℕ) (is-fault : fault ≡ lowest (knownFaults limits s at kind own n sorts)) where
-  pub known-fault : (u : Bool) → (fault ≡ 0 → ⊥) → fault ≡ restOf (wrongAt limits s at kind own n sorts) (laterAt limits s at kind own n sorts) (allowedAt limits s at kind own n sorts) u
-  unfolding knownFaults
-  known-fault u nz = first-three (wrongAt limits s at kind own n sorts) (laterAt limits s at kind own n sorts) (allowedAt limits s at kind own n sorts) u fault is-fault nz
+-- a block of a right length, of a known kind with an allowed option, and not one too many
+pub record Proper (s : List ℕ) (at size stage n count kind : ℕ) : Type 0 where
+  pub is-kind : kind ≡ kindAt s at
+  pub not-opening : stage ≡ opening → ⊥
+  pub not-rows : stage ≡ amongRows → ⊥
+  pub not-empty : size ≡ 0 → ⊥
+  pub size-is : size ≡ contentLength (kindOf kind)
+  pub room : count < n
+  pub is-known : known kind ≡ true
+  pub option : ltb (mostOption (kindOf kind)) (optionAt s at) ≡ false
 
-  pub known-none : fault ≡ 0 → (wrongAt limits s at kind own n sorts ≡ false) × (laterAt limits s at kind own n sorts ≡ false) × (allowedAt limits s at kind own n sorts ≡ true)
-  unfolding knownFaults
-  known-none z = none-wrongly (wrongAt limits s at kind own n sorts) (laterAt limits s at kind own n sorts) (allowedAt limits s at kind own n sorts) fault is-fault z
+-- what is left to judge of it
+module _ (limits : Limits) (s : List ℕ) (at size stage n count kind : ℕ) (sorts : List Bool) (used : Bool) (proper : Proper s at size stage n count kind) where
+  abbrev isWrong : Bool
+  isWrong = wrongAt limits s at kind (count + 1) n sorts
 
--- a block whose length, count, kind and option are right
-pub known-rest : (limits : Limits) (s : List ℕ) (at size stage n count : ℕ) (sorts : List Bool) (used : Bool) (kind : ℕ) → kind ≡ kindAt s at → (stage ≡ 0 → ⊥) → (stage ≡ 3 → ⊥) → (size ≡ 0 → ⊥) → size ≡ contentLength (kindOf kind) → count < n → known kind ≡ true → ltb (mostOption (kindOf kind)) (optionAt s at) ≡ false → restOf (wrongAt limits s at kind (count + 1) n sorts) (laterAt limits s at kind (count + 1) n sorts) (allowedAt limits s at kind (count + 1) n sorts) (eqb kind shiftRegister && used) ≡ lowest (blockFaults limits s at size stage n count sorts used)
-unfolding blockFaults wrongLength wrongKind
-known-rest limits s at size stage n count sorts used kind q a b z w c k o =
-    simp (sym q, ne-eqb _ _ a, ne-eqb _ _ b, ne-eqb _ _ z, eq-eqb _ _ w, lt-leb _ _ c, k, o)
+  abbrev isLater : Bool
+  isLater = laterAt limits s at kind (count + 1) n sorts
+
+  abbrev isAllowed : Bool
+  isAllowed = allowedAt limits s at kind (count + 1) n sorts
+
+  rest : restOf isWrong isLater isAllowed (eqb kind shiftRegister && used) ≡ lowest (blockFaults limits s at size stage n count sorts used)
+  unfolding blockFaults wrongLength wrongKind
+  rest =
+      let p = proper in
+      simp (sym (p .is-kind), ne-eqb _ _ (p .not-opening), ne-eqb _ _ (p .not-rows), ne-eqb _ _ (p .not-empty), eq-eqb _ _ (p .size-is), lt-leb _ _ (p .room), p .is-known, p .option)
+
+  module _ (fault : ℕ) (is-fault : fault ≡ lowest (knownFaults limits s at kind (count + 1) n sorts)) where
+    pub proper-fault : (fault ≡ 0 → ⊥) → fault ≡ lowest (blockFaults limits s at size stage n count sorts used)
+    unfolding knownFaults
+    proper-fault nz = first-three isWrong isLater isAllowed (eqb kind shiftRegister && used) fault is-fault nz ∙ rest
+
+    none : fault ≡ 0 → (isWrong ≡ false) × (isLater ≡ false) × (isAllowed ≡ true)
+    unfolding knownFaults
+    none z = none-wrongly isWrong isLater isAllowed fault is-fault z
+
+    pub proper-allowed : fault ≡ 0 → allowed kind (parametersAt s at (kindOf kind)) ≡ true
+    proper-allowed z = none z .2
+
+    -- 10 or none
+    pub proper-last : fault ≡ 0 → (t : ℕ) → t ≡ cond (eqb kind shiftRegister && used) 10 0 → t ≡ lowest (blockFaults limits s at size stage n count sorts used)
+    proper-last z t e =
+        let f = none z in
+        let q : restOf isWrong isLater isAllowed (eqb kind shiftRegister && used) ≡ cond (eqb kind shiftRegister && used) 10 0 =
+        simp (f .0, f .1, f .2) refl in
+        e ∙ sym q ∙ rest

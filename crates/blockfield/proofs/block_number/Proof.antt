@@ -1,16 +1,17 @@
--- `blockfield::block_number` meets its contract. Assumes nothing.
-use borrow.Author.Tests.{le-leb, lt-leb, eq-eqb, ne-eqb, not-true, not-false}
+-- `blockfield::block_number` meets its contract: the tests come in the order of the numbers; a known kind of a right length has
+-- its option, inputs and parameters within the bytes. Assumes nothing.
 use mathlib.Core.Path.{_≡_, sym, _∙_, ap}
-use mathlib.Core.Bool.{true, false, _&&_}
-use Prim.Native.Nat.{ℕ, _+_}
+use mathlib.Core.Bool.{true, false, _&&_, cond}
+use Prim.Native.Nat.{ℕ, _+_, _≤_}
 use native.Mathlib.Omega.{arith}
 use lib.Dec.{eqb, ltb}
-use lib.ListN.{getD}
-use Rattle.kinds.specs.Kinds.{kindOf}
-use Rattle.blockfield.specs.BlockField.{mostOption, wrongLength, wrongKind, blockFaults}
-use Rattle.blockfield.specs.Marked.{indexMark}
-use Rattle.blockfield.proofs.Laws.{lent, right-length, known-rest, known-fault, known-none, restOf, wrongAt, laterAt, allowedAt, index-range, register-there}
+use lib.ListN.{length, getD}
 use borrow.Author.Needs.{needs}
+use borrow.Author.Tests.{le-leb, lt-leb, eq-eqb, ne-eqb, not-true, not-false}
+use Rattle.kinds.specs.Kinds.{kindOf, known, contentLength}
+use Rattle.blockfield.specs.BlockField.{mostOption, wrongLength, wrongKind, shiftRegister, blockFaults}
+use Rattle.blockfield.specs.Marked.{indexMark}
+use Rattle.blockfield.proofs.Laws.{lent, right-length, Proper, proper-fault, proper-last, proper-allowed, index-range, register-there}
 use Rattle.blockfield.proofs.block_number.Statement.{statement}
 use Rattle.blockfield.proofs.block_number.Tie as tie
 
@@ -56,76 +57,77 @@ returns-6 c =
     let k = sym (c .before .is-known .ensures) ∙ not-true _ (c .if6 .taken) in
     simp (ne-eqb _ _ (c .before .before .before .before .before .before .before .before .if1 .left), ne-eqb _ _ (c .before .before .before .before .before .before .before .if2 .left), ne-eqb _ _ (c .before .before .before .before .before .before .if3 .left), sym (c .before .before .before .before .before .byte-at .ensures .0), lt-leb _ _ (c .before .before .if5 .left), k)
 
+-- ---- from here on the kind is known, and the length is its own
+
+is-known : (c : tie.Else6) → known (c .before .before .before .before .before .byte-at .result) ≡ true
+is-known c = sym (c .before .is-known .ensures) ∙ not-false _ (c .if6 .left)
+
+size-is : (c : tie.Else6) → c .before .before .before .before .before .before .before .before .before .before .args .size ≡ contentLength (kindOf (c .before .before .before .before .before .byte-at .result))
+size-is c = right-length _ _ (is-known c) (sym (c .before .before .before .before .wrong-length .ensures) ∙ c .before .before .before .if4 .left)
+
 add-byte-at-2 : tie.Need-add-byte-at-2
 add-byte-at-2 c = search needs
 
 byte-at-requires-2 : tie.Need-byte-at-requires-2
-byte-at-requires-2 c κs =
-    let a = c .before .before .before .before .before .before .before .before .before .before .args in
-    let kind = c .before .before .before .before .before .byte-at .result in
-    let k = sym (c .before .is-known .ensures) ∙ not-false _ (c .if6 .left) in
-    let size = right-length kind (a .size) k (sym (c .before .before .before .before .wrong-length .ensures) ∙ c .before .before .before .if4 .left) in
-    omega (arith, size, c .before .before .before .before .before .before .before .before .before .before .pre .1)
+byte-at-requires-2 c κs = omega (arith, size-is c, c .before .before .before .before .before .before .before .before .before .before .pre .1)
 
 wrong-option-requires : tie.Need-wrong-option-requires
-wrong-option-requires c κs =
-    let k = sym (c .before .before .is-known .ensures) ∙ not-false _ (c .before .if6 .left) in
-    lent (c .before .before .before .before .before .before .before .before .before .before .before .args .kinds .now) (c .before .before .before .before .before .before .byte-at .result) (c .before .before .before .before .before .before .before .before .before .before .before .pre .0) k
+wrong-option-requires c κs = lent (c .before .before .before .before .before .before .before .before .before .before .before .args .kinds .now) (c .before .before .before .before .before .before .byte-at .result) (c .before .before .before .before .before .before .before .before .before .before .before .pre .0) (is-known (c .before))
 
 returns-7 : tie.Need-returns-7
 unfolding blockFaults wrongLength wrongKind
 returns-7 c =
-    let a = c .before .before .before .before .before .before .before .before .before .before .before .before .before .args in
-    let kind = c .before .before .before .before .before .before .before .before .byte-at .result in
-    let k = sym (c .before .before .before .before .is-known .ensures) ∙ not-false _ (c .before .before .before .if6 .left) in
-    let size = right-length kind (a .size) k (sym (c .before .before .before .before .before .before .before .wrong-length .ensures) ∙ c .before .before .before .before .before .before .if4 .left) in
-    let o = ap (λ (x : ℕ). ltb (mostOption (kindOf kind)) x) (sym (c .before .before .byte-at2 .ensures .0)) ∙ sym (c .before .wrong-option .ensures) ∙ c .if7 .taken in
+    let k = is-known (c .before .before .before) in
+    let size = size-is (c .before .before .before) in
+    let o = ap (λ (x : ℕ). ltb (mostOption (kindOf (c .before .before .before .before .before .before .before .before .byte-at .result))) x) (sym (c .before .before .byte-at2 .ensures .0)) ∙ sym (c .before .wrong-option .ensures) ∙ c .if7 .taken in
     simp (sym (c .before .before .before .before .before .before .before .before .byte-at .ensures .0), ne-eqb _ _ (c .before .before .before .before .before .before .before .before .before .before .before .if1 .left), ne-eqb _ _ (c .before .before .before .before .before .before .before .before .before .before .if2 .left), ne-eqb _ _ (c .before .before .before .before .before .before .before .before .before .if3 .left), eq-eqb _ _ size, lt-leb _ _ (c .before .before .before .before .before .if5 .left), k, o)
+
+-- ---- and from here on the option is allowed
+
+proper : (c : tie.Else7) → Proper (c .before .before .before .before .before .before .before .before .before .before .before .before .before .args .bytes .now) (c .before .before .before .before .before .before .before .before .before .before .before .before .before .args .at) (c .before .before .before .before .before .before .before .before .before .before .before .before .before .args .size) (c .before .before .before .before .before .before .before .before .before .before .before .before .before .args .stage) (c .before .before .before .before .before .before .before .before .before .before .before .before .before .args .n) (c .before .before .before .before .before .before .before .before .before .before .before .before .before .args .blocks) (c .before .before .before .before .before .before .before .before .byte-at .result)
+proper c =
+    record {
+      is-kind = c .before .before .before .before .before .before .before .before .byte-at .ensures .0;
+      not-opening = c .before .before .before .before .before .before .before .before .before .before .before .if1 .left;
+      not-rows = c .before .before .before .before .before .before .before .before .before .before .if2 .left;
+      not-empty = c .before .before .before .before .before .before .before .before .before .if3 .left;
+      size-is = size-is (c .before .before .before);
+      room = c .before .before .before .before .before .if5 .left;
+      is-known = is-known (c .before .before .before);
+      option =
+          ap (λ (x : ℕ). ltb (mostOption (kindOf (c .before .before .before .before .before .before .before .before .byte-at .result))) x) (sym (c .before .before .byte-at2 .ensures .0))
+          ∙ sym (c .before .wrong-option .ensures)
+          ∙ c .if7 .left;
+    }
+
+inside : (c : tie.Else7) → (c .before .before .before .before .before .before .before .before .before .before .before .before .before .args .at + 3) + contentLength (kindOf (c .before .before .before .before .before .before .before .before .byte-at .result)) ≤ length (c .before .before .before .before .before .before .before .before .before .before .before .before .before .args .bytes .now)
+inside c = omega (arith, proper c .size-is, c .before .before .before .before .before .before .before .before .before .before .before .before .before .pre .1)
 
 add-known-number : tie.Need-add-known-number
 add-known-number c = search needs
 
 known-number-requires : tie.Need-known-number-requires
 known-number-requires c κs =
-    let a = c .before .before .before .before .before .before .before .before .before .before .before .before .before .args in
-    let kind = c .before .before .before .before .before .before .before .before .byte-at .result in
-    let k = sym (c .before .before .before .before .is-known .ensures) ∙ not-false _ (c .before .before .before .if6 .left) in
-    let size = right-length kind (a .size) k (sym (c .before .before .before .before .before .before .before .wrong-length .ensures) ∙ c .before .before .before .before .before .before .if4 .left) in
-    (lent (a .kinds .now) kind (c .before .before .before .before .before .before .before .before .before .before .before .before .before .pre .0) k, omega (arith, size, c .before .before .before .before .before .before .before .before .before .before .before .before .before .pre .1), omega (arith, c .before .before .before .before .before .before .before .before .before .before .before .before .before .pre .2, c .before .before .before .before .before .before .before .before .before .before .before .before .before .pre .3))
+    (lent (c .before .before .before .before .before .before .before .before .before .before .before .before .before .args .kinds .now) (c .before .before .before .before .before .before .before .before .byte-at .result) (c .before .before .before .before .before .before .before .before .before .before .before .before .before .pre .0) (proper c .is-known), inside c, omega (arith, c .before .before .before .before .before .before .before .before .before .before .before .before .before .pre .2, c .before .before .before .before .before .before .before .before .before .before .before .before .before .pre .3))
 
 returns-8 : tie.Need-returns-8
 returns-8 c =
     let a = c .before .before .before .before .before .before .before .before .before .before .before .before .before .before .before .args in
-    let kind = c .before .before .before .before .before .before .before .before .before .before .byte-at .result in
-    let k = sym (c .before .before .before .before .before .before .is-known .ensures) ∙ not-false _ (c .before .before .before .before .before .if6 .left) in
-    let size = right-length kind (a .size) k (sym (c .before .before .before .before .before .before .before .before .before .wrong-length .ensures) ∙ c .before .before .before .before .before .before .before .before .if4 .left) in
-    let o = ap (λ (x : ℕ). ltb (mostOption (kindOf kind)) x) (sym (c .before .before .before .before .byte-at2 .ensures .0)) ∙ sym (c .before .before .before .wrong-option .ensures) ∙ c .before .before .if7 .left in
-    let used = getD (a .registers .now) (indexMark (a .bytes .now) (a .at)) false in
-    let rest = known-rest (a .limits) (a .bytes .now) (a .at) (a .size) (a .stage) (a .n) (a .blocks) (a .sorts .now) used kind (c .before .before .before .before .before .before .before .before .before .before .byte-at .ensures .0) (c .before .before .before .before .before .before .before .before .before .before .before .before .before .if1 .left) (c .before .before .before .before .before .before .before .before .before .before .before .before .if2 .left) (c .before .before .before .before .before .before .before .before .before .before .before .if3 .left) size (c .before .before .before .before .before .before .before .if5 .left) k o in
-    known-fault (a .limits) (a .bytes .now) (a .at) kind (a .blocks + 1) (a .n) (a .sorts .now) _ (c .before .known-number .ensures) (eqb kind 12 && used) (c .if8 .taken) ∙ rest
+    proper-fault (a .limits) (a .bytes .now) (a .at) (a .size) (a .stage) (a .n) (a .blocks) (c .before .before .before .before .before .before .before .before .before .before .byte-at .result) (a .sorts .now) _ (proper (c .before .before)) _ (c .before .known-number .ensures) (c .if8 .taken)
 
 returns-9 : tie.Need-returns-9
 returns-9 c =
     let a = c .before .before .before .before .before .before .before .before .before .before .before .before .before .before .before .before .args in
-    let kind = c .before .before .before .before .before .before .before .before .before .before .before .byte-at .result in
-    let k = sym (c .before .before .before .before .before .before .before .is-known .ensures) ∙ not-false _ (c .before .before .before .before .before .before .if6 .left) in
-    let size = right-length kind (a .size) k (sym (c .before .before .before .before .before .before .before .before .before .before .wrong-length .ensures) ∙ c .before .before .before .before .before .before .before .before .before .if4 .left) in
-    let o = ap (λ (x : ℕ). ltb (mostOption (kindOf kind)) x) (sym (c .before .before .before .before .before .byte-at2 .ensures .0)) ∙ sym (c .before .before .before .before .wrong-option .ensures) ∙ c .before .before .before .if7 .left in
     let used = getD (a .registers .now) (indexMark (a .bytes .now) (a .at)) false in
-    let rest = known-rest (a .limits) (a .bytes .now) (a .at) (a .size) (a .stage) (a .n) (a .blocks) (a .sorts .now) used kind (c .before .before .before .before .before .before .before .before .before .before .before .byte-at .ensures .0) (c .before .before .before .before .before .before .before .before .before .before .before .before .before .before .if1 .left) (c .before .before .before .before .before .before .before .before .before .before .before .before .before .if2 .left) (c .before .before .before .before .before .before .before .before .before .before .before .before .if3 .left) size (c .before .before .before .before .before .before .before .before .if5 .left) k o in
-    let none = known-none (a .limits) (a .bytes .now) (a .at) kind (a .blocks + 1) (a .n) (a .sorts .now) _ (c .before .before .known-number .ensures) (c .before .if8 .left) in
-    let zero : 0 ≡ restOf (wrongAt (a .limits) (a .bytes .now) (a .at) kind (a .blocks + 1) (a .n) (a .sorts .now)) (laterAt (a .limits) (a .bytes .now) (a .at) kind (a .blocks + 1) (a .n) (a .sorts .now)) (allowedAt (a .limits) (a .bytes .now) (a .at) kind (a .blocks + 1) (a .n) (a .sorts .now)) (eqb kind 12 && used) =
-    simp (none .0, none .1, none .2, ne-eqb _ _ (c .if9 .taken)) in
-    zero ∙ rest
+    let e : _≡_ {A = ℕ} 0 (cond (eqb (c .before .before .before .before .before .before .before .before .before .before .before .byte-at .result) shiftRegister && used) 10 0) = simp (ne-eqb _ _ (c .if9 .taken)) in
+    proper-last (a .limits) (a .bytes .now) (a .at) (a .size) (a .stage) (a .n) (a .blocks) (c .before .before .before .before .before .before .before .before .before .before .before .byte-at .result) (a .sorts .now) used (proper (c .before .before .before)) _ (c .before .before .known-number .ensures) (c .before .if8 .left) 0 e
 
 index-mark-requires : tie.Need-index-mark-requires
 index-mark-requires c κs =
     let a = c .before .before .before .before .before .before .before .before .before .before .before .before .before .before .before .before .args in
-    let kind = c .before .before .before .before .before .before .before .before .before .before .before .byte-at .result in
-    let k = sym (c .before .before .before .before .before .before .before .is-known .ensures) ∙ not-false _ (c .before .before .before .before .before .before .if6 .left) in
-    let size = right-length kind (a .size) k (sym (c .before .before .before .before .before .before .before .before .before .before .wrong-length .ensures) ∙ c .before .before .before .before .before .before .before .before .before .if4 .left) in
-    let none = known-none (a .limits) (a .bytes .now) (a .at) kind (a .blocks + 1) (a .n) (a .sorts .now) _ (c .before .before .known-number .ensures) (c .before .if8 .left) in
-    (register-there (a .bytes .now) (a .at) kind (c .if9 .left) (omega (arith, size, c .before .before .before .before .before .before .before .before .before .before .before .before .before .before .before .before .pre .1)), index-range (a .bytes .now) (a .at) kind (c .if9 .left) (none .2))
+    let p = proper (c .before .before .before) in
+    let ok = proper-allowed (a .limits) (a .bytes .now) (a .at) (a .size) (a .stage) (a .n) (a .blocks) (c .before .before .before .before .before .before .before .before .before .before .before .byte-at .result) (a .sorts .now) false p _ (c .before .before .known-number .ensures) (c .before .if8 .left) in
+    (register-there (a .bytes .now) (a .at) (c .before .before .before .before .before .before .before .before .before .before .before .byte-at .result) (c .if9 .left) (inside (c .before .before .before)), index-range (a .bytes .now) (a .at) (c .before .before .before .before .before .before .before .before .before .before .before .byte-at .result) (c .if9 .left) ok)
 
 element-copy-out-if10 : tie.Need-element-copy-out-if10
 element-copy-out-if10 c = search needs
@@ -133,32 +135,18 @@ element-copy-out-if10 c = search needs
 returns-10 : tie.Need-returns-10
 returns-10 c =
     let a = c .before .before .before .before .before .before .before .before .before .before .before .before .before .before .before .before .before .before .before .args in
-    let kind = c .before .before .before .before .before .before .before .before .before .before .before .before .before .before .byte-at .result in
-    let k = sym (c .before .before .before .before .before .before .before .before .before .before .is-known .ensures) ∙ not-false _ (c .before .before .before .before .before .before .before .before .before .if6 .left) in
-    let size = right-length kind (a .size) k (sym (c .before .before .before .before .before .before .before .before .before .before .before .before .before .wrong-length .ensures) ∙ c .before .before .before .before .before .before .before .before .before .before .before .before .if4 .left) in
-    let o = ap (λ (x : ℕ). ltb (mostOption (kindOf kind)) x) (sym (c .before .before .before .before .before .before .before .before .byte-at2 .ensures .0)) ∙ sym (c .before .before .before .before .before .before .before .wrong-option .ensures) ∙ c .before .before .before .before .before .before .if7 .left in
     let used = getD (a .registers .now) (indexMark (a .bytes .now) (a .at)) false in
-    let rest = known-rest (a .limits) (a .bytes .now) (a .at) (a .size) (a .stage) (a .n) (a .blocks) (a .sorts .now) used kind (c .before .before .before .before .before .before .before .before .before .before .before .before .before .before .byte-at .ensures .0) (c .before .before .before .before .before .before .before .before .before .before .before .before .before .before .before .before .before .if1 .left) (c .before .before .before .before .before .before .before .before .before .before .before .before .before .before .before .before .if2 .left) (c .before .before .before .before .before .before .before .before .before .before .before .before .before .before .before .if3 .left) size (c .before .before .before .before .before .before .before .before .before .before .before .if5 .left) k o in
-    let none = known-none (a .limits) (a .bytes .now) (a .at) kind (a .blocks + 1) (a .n) (a .sorts .now) _ (c .before .before .before .before .before .known-number .ensures) (c .before .before .before .before .if8 .left) in
     let u : used ≡ true = ap (λ (j : ℕ). getD (a .registers .now) j false) (sym (c .before .before .index-mark .ensures .0)) ∙ c .if10 .taken in
-    let last : 10 ≡ restOf (wrongAt (a .limits) (a .bytes .now) (a .at) kind (a .blocks + 1) (a .n) (a .sorts .now)) (laterAt (a .limits) (a .bytes .now) (a .at) kind (a .blocks + 1) (a .n) (a .sorts .now)) (allowedAt (a .limits) (a .bytes .now) (a .at) kind (a .blocks + 1) (a .n) (a .sorts .now)) (eqb kind 12 && used) =
-    simp (none .0, none .1, none .2, eq-eqb _ _ (c .before .before .before .if9 .left), u) in
-    last ∙ rest
+    let e : _≡_ {A = ℕ} 10 (cond (eqb (c .before .before .before .before .before .before .before .before .before .before .before .before .before .before .byte-at .result) shiftRegister && used) 10 0) = simp (eq-eqb _ _ (c .before .before .before .if9 .left), u) in
+    proper-last (a .limits) (a .bytes .now) (a .at) (a .size) (a .stage) (a .n) (a .blocks) (c .before .before .before .before .before .before .before .before .before .before .before .before .before .before .byte-at .result) (a .sorts .now) used (proper (c .before .before .before .before .before .before)) _ (c .before .before .before .before .before .known-number .ensures) (c .before .before .before .before .if8 .left) 10 e
 
 returns-11 : tie.Need-returns-11
 returns-11 c =
     let a = c .before .before .before .before .before .before .before .before .before .before .before .before .before .before .before .before .before .before .before .args in
-    let kind = c .before .before .before .before .before .before .before .before .before .before .before .before .before .before .byte-at .result in
-    let k = sym (c .before .before .before .before .before .before .before .before .before .before .is-known .ensures) ∙ not-false _ (c .before .before .before .before .before .before .before .before .before .if6 .left) in
-    let size = right-length kind (a .size) k (sym (c .before .before .before .before .before .before .before .before .before .before .before .before .before .wrong-length .ensures) ∙ c .before .before .before .before .before .before .before .before .before .before .before .before .if4 .left) in
-    let o = ap (λ (x : ℕ). ltb (mostOption (kindOf kind)) x) (sym (c .before .before .before .before .before .before .before .before .byte-at2 .ensures .0)) ∙ sym (c .before .before .before .before .before .before .before .wrong-option .ensures) ∙ c .before .before .before .before .before .before .if7 .left in
     let used = getD (a .registers .now) (indexMark (a .bytes .now) (a .at)) false in
-    let rest = known-rest (a .limits) (a .bytes .now) (a .at) (a .size) (a .stage) (a .n) (a .blocks) (a .sorts .now) used kind (c .before .before .before .before .before .before .before .before .before .before .before .before .before .before .byte-at .ensures .0) (c .before .before .before .before .before .before .before .before .before .before .before .before .before .before .before .before .before .if1 .left) (c .before .before .before .before .before .before .before .before .before .before .before .before .before .before .before .before .if2 .left) (c .before .before .before .before .before .before .before .before .before .before .before .before .before .before .before .if3 .left) size (c .before .before .before .before .before .before .before .before .before .before .before .if5 .left) k o in
-    let none = known-none (a .limits) (a .bytes .now) (a .at) kind (a .blocks + 1) (a .n) (a .sorts .now) _ (c .before .before .before .before .before .known-number .ensures) (c .before .before .before .before .if8 .left) in
     let u : used ≡ false = ap (λ (j : ℕ). getD (a .registers .now) j false) (sym (c .before .before .index-mark .ensures .0)) ∙ c .if10 .left in
-    let last : 0 ≡ restOf (wrongAt (a .limits) (a .bytes .now) (a .at) kind (a .blocks + 1) (a .n) (a .sorts .now)) (laterAt (a .limits) (a .bytes .now) (a .at) kind (a .blocks + 1) (a .n) (a .sorts .now)) (allowedAt (a .limits) (a .bytes .now) (a .at) kind (a .blocks + 1) (a .n) (a .sorts .now)) (eqb kind 12 && used) =
-    simp (none .0, none .1, none .2, eq-eqb _ _ (c .before .before .before .if9 .left), u) in
-    last ∙ rest
+    let e : _≡_ {A = ℕ} 0 (cond (eqb (c .before .before .before .before .before .before .before .before .before .before .before .before .before .before .byte-at .result) shiftRegister && used) 10 0) = simp (eq-eqb _ _ (c .before .before .before .if9 .left), u) in
+    proper-last (a .limits) (a .bytes .now) (a .at) (a .size) (a .stage) (a .n) (a .blocks) (c .before .before .before .before .before .before .before .before .before .before .before .before .before .before .byte-at .result) (a .sorts .now) used (proper (c .before .before .before .before .before .before)) _ (c .before .before .before .before .before .known-number .ensures) (c .before .before .before .before .if8 .left) 0 e
 
 pub block-number-spec : {M : Type 1} → statement M
 block-number-spec =

@@ -1,4 +1,4 @@
--- `blockfield::index_mark` meets its contract. Assumes nothing.
+-- `blockfield::index_mark` meets its contract: an index in its range is 1 to 4. Assumes nothing.
 use mathlib.Core.Path.{sym, _∙_, ap}
 use Prim.Native.Nat.{ℕ, _-_}
 use native.Mathlib.Omega.{arith}

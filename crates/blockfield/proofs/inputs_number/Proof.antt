@@ -1,4 +1,5 @@
--- `blockfield::inputs_number` meets its contract. Assumes nothing.
+-- `blockfield::inputs_number` meets its contract: what holds for the digital or the analog inputs holds for the block. Assumes
+-- nothing.
 use mathlib.Core.Path.{_∙_, ap, ap₂}
 use Prim.Native.Nat.{ℕ, _+_, _*_}
 use Rattle.kinds.specs.Kinds.{kindOf}

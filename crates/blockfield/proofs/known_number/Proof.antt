@@ -1,4 +1,5 @@
--- `blockfield::known_number` meets its contract. Assumes nothing.
+-- `blockfield::known_number` meets its contract: 6 and 7 of the inputs come first, then 8; a kind without parameters allows none.
+-- Assumes nothing.
 use mathlib.Core.Path.{sym, _∙_, ap}
 use Rattle.kinds.specs.Kinds.{kindOf, allowed}
 use Rattle.blockfield.specs.BlockField.{parametersAt}

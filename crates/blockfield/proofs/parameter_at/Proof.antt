@@ -1,4 +1,4 @@
--- `blockfield::parameter_at` meets its contract. Assumes nothing.
+-- `blockfield::parameter_at` meets its contract: parameters stand one behind the other, four bytes each. Assumes nothing.
 use mathlib.Core.Path.{sym, _∙_}
 use Rattle.words.proofs.Locals.{back-to}
 use Rattle.blockfield.proofs.Laws.{signed-in, signed-out}

@@ -1,4 +1,4 @@
--- `blockfield::parameters_at` meets its contract. Assumes nothing.
+-- `blockfield::parameters_at` meets its contract: four parameters, and the place where they begin by the kind. Assumes nothing.
 use mathlib.Core.Path.{ap₂}
 use Prim.Native.Nat.{ℕ, _+_, _*_}
 use Rattle.words.proofs.Locals.{back-to}

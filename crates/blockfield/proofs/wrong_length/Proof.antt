@@ -1,4 +1,4 @@
--- `blockfield::wrong_length` meets its contract. Assumes nothing.
+-- `blockfield::wrong_length` meets its contract: the length of an unknown kind is not judged. Assumes nothing.
 use mathlib.Core.Path.{sym, _∙_, ap}
 use mathlib.Core.Bool.{not}
 use Prim.Native.Nat.{ℕ}

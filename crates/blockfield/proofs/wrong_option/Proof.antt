@@ -1,4 +1,4 @@
--- `blockfield::wrong_option` meets its contract. Assumes nothing.
+-- `blockfield::wrong_option` meets its contract: 1 is the most where the kind may be retentive, else 0. Assumes nothing.
 use mathlib.Core.Path.{sym, _∙_}
 use borrow.Author.Needs.{needs}
 use Rattle.blockfield.proofs.wrong_option.Statement.{statement}

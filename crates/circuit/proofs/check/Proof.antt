@@ -1,4 +1,4 @@
--- `circuit::check` meets its contract. Assumes nothing.
+-- `circuit::check` meets its contract: the answer of the verdict, at our limits. Assumes nothing.
 use mathlib.Core.Path.{refl, sym, _∙_, ap, subst}
 use Rattle.refusals.specs.Limited.{Modest}
 use Rattle.refusals.specs.declared.Limits.{Limits}

@@ -1,4 +1,4 @@
--- `circuit::field` meets its contract. Assumes nothing.
+-- `circuit::field` meets its contract: a field that is cut short is 1; else its tag tells which function judges it. Assumes nothing.
 use mathlib.Core.Path.{sym, _∙_}
 use Prim.Native.Nat.{_+_, _<_, _≤_}
 use native.Mathlib.Omega.{arith}

@@ -1,4 +1,5 @@
--- `connectors::connected` meets its contract. Assumes nothing.
+-- `connectors::connected` meets its contract: the tests that give 6 come first; a class that names a block has the range 1 to n.
+-- Assumes nothing.
 use mathlib.Core.Path.{sym, _∙_}
 use Prim.Native.Nat.{_%_}
 use native.Mathlib.Omega.{arith}

@@ -1,4 +1,4 @@
--- `connectors::connector` meets its contract. Assumes nothing.
+-- `connectors::connector` meets its contract: its byte and its number are read, then judged. Assumes nothing.
 use mathlib.Core.Path.{ap₂, _∙_}
 use Prim.Native.Nat.{ℕ}
 use Rattle.connectors.specs.Connectors.{Connector, wrong, later, sixOrSeven}

@@ -1,4 +1,4 @@
--- `connectors::greatest_of` meets its contract. Assumes nothing.
+-- `connectors::greatest_of` meets its contract: class by class; no other class has numbers. Assumes nothing.
 use mathlib.Core.Path.{sym, ap}
 use Rattle.connectors.specs.Connectors.{greatest}
 use Rattle.connectors.proofs.Laws.{greatest-other}

@@ -1,4 +1,5 @@
--- `connectors::inputs` meets its contract. Assumes nothing.
+-- `connectors::inputs` meets its contract: the loop goes from the last input to the first; what holds for one of two holds for
+-- both together. Assumes nothing.
 use borrow.Author.Needs.{needs}
 use mathlib.Core.Path.{_≡_, _∙_, ap₂}
 use Prim.Native.Nat.{_+_, _-_, _*_, _≤_}

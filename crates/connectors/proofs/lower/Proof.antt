@@ -1,4 +1,4 @@
--- `connectors::lower` meets its contract. Assumes nothing.
+-- `connectors::lower` meets its contract: 0 is none; else the lower one. Assumes nothing.
 use borrow.Author.Tests.{eq-eqb, ne-eqb, lt-ltb, le-ltb}
 use Rattle.connectors.specs.Named.{lower}
 use Rattle.connectors.proofs.lower.Statement.{statement}

@@ -1,4 +1,4 @@
--- `connectors::named` meets its contract. Assumes nothing.
+-- `connectors::named` meets its contract: the tests come in the order of the numbers, and each one decides. Assumes nothing.
 use mathlib.Core.Bool.{false}
 use borrow.Author.Tests.{lt-ltb, le-ltb, lt-leb, le-leb, eq-eqb, ne-eqb}
 use Rattle.connectors.specs.Connectors.{sixOrSeven}

@@ -1,4 +1,4 @@
--- `connectors::names_block` meets its contract. Assumes nothing.
+-- `connectors::names_block` meets its contract: the definition, word for word. Assumes nothing.
 use mathlib.Core.Path.{refl}
 use Rattle.connectors.specs.Connectors.{names}
 use Rattle.connectors.proofs.names_block.Statement.{statement}

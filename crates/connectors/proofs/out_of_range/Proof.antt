@@ -1,4 +1,4 @@
--- `connectors::out_of_range` meets its contract. Assumes nothing.
+-- `connectors::out_of_range` meets its contract: least numbers are the bits of one number. Assumes nothing.
 use mathlib.Core.Path.{sym, ap, _∙_}
 use Prim.Native.Nat.{ℕ}
 use lib.Dec.{ltb}

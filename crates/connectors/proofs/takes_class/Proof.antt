@@ -1,4 +1,4 @@
--- `connectors::takes_class` meets its contract. Assumes nothing.
+-- `connectors::takes_class` meets its contract: the table is the bits of one number. Assumes nothing.
 use Rattle.connectors.proofs.Laws.{takes-bits}
 use borrow.Author.Needs.{needs}
 use Rattle.connectors.proofs.takes_class.Statement.{statement}

@@ -1,4 +1,4 @@
--- `connectors::wrongly_inverted` meets its contract. Assumes nothing.
+-- `connectors::wrongly_inverted` meets its contract: the classes that cannot be inverted are the bits of one number. Assumes nothing.
 use borrow.Author.Tests.{lt-leb, le-leb}
 use Rattle.connectors.proofs.Laws.{plain-bits}
 use borrow.Author.Needs.{needs}

@@ -1,4 +1,4 @@
--- `decoding::end` meets its contract. Assumes nothing.
+-- `decoding::end` meets its contract: nothing is added. Assumes nothing.
 use mathlib.Core.Path.{sym, _∙_}
 use Rattle.decoding.specs.Held.{seenOf}
 use Rattle.decoding.proofs.Steps.{end-same, end-taken, faulty-judges}

@@ -1,4 +1,4 @@
--- `decoding::header` meets its contract. Assumes nothing.
+-- `decoding::header` meets its contract: a header without a fault comes first, so nothing is held yet. Assumes nothing.
 use mathlib.Core.Path.{sym, _∙_}
 use native.Mathlib.Omega.{arith}
 use Rattle.decoding.specs.Held.{seenOf}

@@ -1,4 +1,4 @@
--- `decoding::label` meets its contract. Assumes nothing.
+-- `decoding::label` meets its contract: a label changes nothing that is held. Assumes nothing.
 use mathlib.Core.Path.{sym, _∙_}
 use Rattle.decoding.specs.Held.{seenOf}
 use Rattle.decoding.proofs.Steps.{label-same, label-taken, faulty-judges}

@@ -1,4 +1,4 @@
--- `decoding::mark_register` meets its contract. Assumes nothing.
+-- `decoding::mark_register` meets its contract: only a shift register has an index. Assumes nothing.
 use mathlib.Core.Path.{sym, _∙_, ap}
 use mathlib.Core.Bool.{true}
 use Prim.Native.Nat.{ℕ}

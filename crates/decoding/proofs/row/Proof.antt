@@ -1,4 +1,5 @@
--- `decoding::row` meets its contract. Assumes nothing.
+-- `decoding::row` meets its contract: a row without a fault stands right behind the last one, and its destination has a mark of
+-- its own. Assumes nothing.
 use mathlib.Core.Path.{sym, _∙_, ap₂}
 use Prim.Native.Nat.{_≤_}
 use borrow.Author.Needs.{needs}
@@ -6,7 +7,7 @@ use native.Mathlib.Omega.{arith}
 use Rattle.fields.specs.Fields.{unknown}
 use Rattle.fields.specs.Marks.{mark}
 use Rattle.decoding.specs.Held.{seenOf}
-use Rattle.decoding.proofs.Right.{row-right}
+use Rattle.decoding.proofs.Right.{RowRight, row-right}
 use Rattle.decoding.proofs.Steps.{row-same, row-taken, faulty-judges}
 use Rattle.decoding.proofs.row.Statement.{statement}
 use Rattle.decoding.proofs.row.Tie as tie
@@ -25,13 +26,20 @@ returns c =
     (c .before .before .row-number .ensures ∙ row-same (a .limits) (a .bytes .now) (a .at) (a .size) (seenOf (a .head) offsets (a .sorts .now) (a .used .now) registers) st h)
     (c .before .if1 .taken)
 
+-- ---- from here on the row has no fault
+
+right-row : (c : tie.Else1) → RowRight (c .before .before .before .before .args .limits) (c .before .before .before .before .args .bytes .now) (c .before .before .before .before .args .at) (c .before .before .before .before .args .size) (c .before .before .before .before .args .head .n) (c .before .before .before .before .args .head .blocks)
+right-row c =
+    let a = c .before .before .before .before .args in
+    row-right (a .limits) (a .bytes .now) (a .at) (a .size) (a .head .stage) (a .head .n) (a .head .blocks) (a .sorts .now) _ (sym (c .before .row-number .ensures) ∙ c .if1 .left)
+
 add-byte-at : tie.Need-add-byte-at
 add-byte-at c = search needs
 
 byte-at-requires : tie.Need-byte-at-requires
 byte-at-requires c κs =
     let a = c .before .before .before .before .args in
-    let right = row-right (a .limits) (a .bytes .now) (a .at) (a .size) (a .head .stage) (a .head .n) (a .head .blocks) (a .sorts .now) _ (sym (c .before .row-number .ensures) ∙ c .if1 .left) in
+    let right = right-row c in
     omega (arith, right .size-is, c .before .before .before .before .pre .0)
 
 add-byte-at-2 : tie.Need-add-byte-at-2
@@ -40,13 +48,13 @@ add-byte-at-2 c = search needs
 byte-at-requires-2 : tie.Need-byte-at-requires-2
 byte-at-requires-2 c κs =
     let a = c .before .before .before .before .before .args in
-    let right = row-right (a .limits) (a .bytes .now) (a .at) (a .size) (a .head .stage) (a .head .n) (a .head .blocks) (a .sorts .now) _ (sym (c .before .before .row-number .ensures) ∙ c .before .if1 .left) in
+    let right = right-row (c .before) in
     omega (arith, right .size-is, c .before .before .before .before .before .pre .0)
 
 mark-of-requires : tie.Need-mark-of-requires
 mark-of-requires c κs =
     let a = c .before .before .before .before .before .before .args in
-    let right = row-right (a .limits) (a .bytes .now) (a .at) (a .size) (a .head .stage) (a .head .n) (a .head .blocks) (a .sorts .now) _ (sym (c .before .before .before .row-number .ensures) ∙ c .before .before .if1 .left) in
+    let right = right-row (c .before .before) in
     (c .before .before .before .before .before .before .pre .2, ap₂ (unknown (a .limits)) (c .before .byte-at .ensures .0) (c .byte-at2 .ensures .0) ∙ right .is-known)
 
 element-write-used : tie.Need-element-write-used

@@ -1,4 +1,4 @@
--- `fields::end_number` meets its contract. Assumes nothing.
+-- `fields::end_number` meets its contract: the tests come in the order of the numbers. Assumes nothing.
 use borrow.Author.Tests.{lt-ltb, le-ltb, eq-eqb, ne-eqb}
 use Rattle.fields.specs.Fields.{endFaults}
 use Rattle.fields.proofs.end_number.Statement.{statement}

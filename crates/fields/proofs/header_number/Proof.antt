@@ -1,4 +1,4 @@
--- `fields::header_number` meets its contract. Assumes nothing.
+-- `fields::header_number` meets its contract: the tests come in the order of the numbers. Assumes nothing.
 use mathlib.Core.Path.{sym, _∙_, ap}
 use Prim.Native.Nat.{ℕ}
 use lib.Dec.{eqb, ltb}

@@ -1,4 +1,4 @@
--- `fields::is_unknown` meets its contract. Assumes nothing.
+-- `fields::is_unknown` meets its contract: number 0 first, then the limit. Assumes nothing.
 use mathlib.Core.Path.{ap}
 use Prim.Native.Nat.{ℕ}
 use lib.Dec.{ltb}

@@ -1,4 +1,4 @@
--- `fields::label_number` meets its contract. Assumes nothing.
+-- `fields::label_number` meets its contract: two tests, one number. Assumes nothing.
 use borrow.Author.Tests.{lt-ltb, le-ltb, eq-eqb, ne-eqb}
 use Rattle.fields.specs.Fields.{labelFaults}
 use Rattle.fields.proofs.label_number.Statement.{statement}

@@ -1,4 +1,4 @@
--- `fields::limit_of` meets its contract. Assumes nothing.
+-- `fields::limit_of` meets its contract: class by class; no other class is a destination. Assumes nothing.
 use mathlib.Core.Path.{sym, ap}
 use Rattle.fields.specs.Fields.{limitOf}
 use Rattle.fields.proofs.Laws.{limit-other}

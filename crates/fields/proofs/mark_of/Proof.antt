@@ -1,4 +1,5 @@
--- `fields::mark_of` meets its contract. Assumes nothing.
+-- `fields::mark_of` meets its contract: a known destination has a class below 5, and its number fits the room of its class.
+-- Assumes nothing.
 use mathlib.Core.Path.{ap}
 use Prim.Native.Nat.{ℕ, _+_, _-_}
 use native.Mathlib.Omega.{arith}

@@ -1,4 +1,4 @@
--- `fields::place_of` meets its contract. Assumes nothing.
+-- `fields::place_of` meets its contract: the places are three bits a class of one number. Assumes nothing.
 use mathlib.Core.Path.{sym}
 use native.Mathlib.Omega.{arith}
 use Rattle.fields.proofs.Laws.{place-bits, place-above, place-below}

@@ -1,10 +1,12 @@
--- `fields::row_number` meets its contract. Assumes nothing.
+-- `fields::row_number` meets its contract: the tests come in the order of the numbers; behind all blocks no number is later, so a
+-- fault of the connector is 6. Assumes nothing.
 use mathlib.Core.Path.{_≡_, sym, _∙_, ap, ap₂}
-use mathlib.Core.Bool.{true, false}
+use mathlib.Core.Bool.{Bool, true, false, _||_, cond}
 use Prim.Native.Nat.{ℕ, _+_, _<_}
 use native.Mathlib.Omega.{arith}
 use lib.ListN.{getD}
 use borrow.Author.Tests.{lt-ltb, le-ltb, eq-eqb, ne-eqb}
+use Rattle.refusals.specs.Faults.{lowest}
 use Rattle.fields.specs.Fields.{unknown, rowFaults, classAt, numberIn}
 use Rattle.fields.specs.Marks.{mark}
 use Rattle.fields.proofs.Laws.{row-wrong, row-right}
@@ -50,6 +52,15 @@ returns-4 c =
     let w = row-wrong (a .limits) (a .bytes .now) (a .at) (a .n) (a .blocks + 1) (a .sorts .now) _ _ _ (c .before .before .before .byte-at .ensures .0) (c .before .before .place-of .ensures .0) (c .before .connector .ensures) own (c .if4 .taken) in
     simp (ne-eqb _ _ (c .before .before .before .before .before .before .if1 .left), eq-eqb _ _ (c .before .before .before .before .before .if2 .left), le-ltb _ _ (c .before .before .before .before .if3 .left), w)
 
+-- ---- from here on only the destination is left to judge
+
+left : (c : tie.Else4) (used : Bool) → cond (unknown (c .before .before .before .before .before .before .before .before .args .limits) (classAt (c .before .before .before .before .before .before .before .before .args .bytes .now) (c .before .before .before .before .before .before .before .before .args .at)) (numberIn (c .before .before .before .before .before .before .before .before .args .bytes .now) (c .before .before .before .before .before .before .before .before .args .at)) || used) 9 0 ≡ lowest (rowFaults (c .before .before .before .before .before .before .before .before .args .limits) (c .before .before .before .before .before .before .before .before .args .bytes .now) (c .before .before .before .before .before .before .before .before .args .at) (c .before .before .before .before .before .before .before .before .args .size) (c .before .before .before .before .before .before .before .before .args .stage) (c .before .before .before .before .before .before .before .before .args .n) (c .before .before .before .before .before .before .before .before .args .blocks) (c .before .before .before .before .before .before .before .before .args .sorts .now) used)
+unfolding rowFaults
+left c used =
+    let a = c .before .before .before .before .before .before .before .before .args in
+    let w = row-right (a .limits) (a .bytes .now) (a .at) (a .n) (a .blocks + 1) (a .sorts .now) _ _ _ (c .before .before .before .byte-at .ensures .0) (c .before .before .place-of .ensures .0) (c .before .connector .ensures) (c .if4 .left) in
+    simp (ne-eqb _ _ (c .before .before .before .before .before .before .if1 .left), eq-eqb _ _ (c .before .before .before .before .before .if2 .left), le-ltb _ _ (c .before .before .before .before .if3 .left), w)
+
 add-byte-at-2 : tie.Need-add-byte-at-2
 add-byte-at-2 c = search needs
 
@@ -59,14 +70,19 @@ byte-at-requires-2 c κs = search needs
 is-unknown-requires : tie.Need-is-unknown-requires
 is-unknown-requires c κs = search needs
 
+-- whether the destination is unknown, as the test says
+known : (c : tie.After-is-unknown) → unknown (c .before .before .before .before .before .before .before .before .before .before .args .limits) (classAt (c .before .before .before .before .before .before .before .before .before .before .args .bytes .now) (c .before .before .before .before .before .before .before .before .before .before .args .at)) (numberIn (c .before .before .before .before .before .before .before .before .before .before .args .bytes .now) (c .before .before .before .before .before .before .before .before .before .before .args .at)) ≡ c .is-unknown .result
+known c =
+    ap₂ (unknown (c .before .before .before .before .before .before .before .before .before .before .args .limits)) (sym (c .before .before .before .before .before .byte-at .ensures .0)) (sym (c .before .byte-at2 .ensures .0))
+    ∙ sym (c .is-unknown .ensures)
+
 returns-5 : tie.Need-returns-5
-unfolding rowFaults
 returns-5 c =
     let a = c .before .before .before .before .before .before .before .before .before .before .before .args in
-    let w = row-right (a .limits) (a .bytes .now) (a .at) (a .n) (a .blocks + 1) (a .sorts .now) _ _ _ (c .before .before .before .before .before .before .byte-at .ensures .0) (c .before .before .before .before .before .place-of .ensures .0) (c .before .before .before .before .connector .ensures) (c .before .before .before .if4 .left) in
-    let u : unknown (a .limits) (classAt (a .bytes .now) (a .at)) (numberIn (a .bytes .now) (a .at)) ≡ true =
-    ap₂ (unknown (a .limits)) (sym (c .before .before .before .before .before .before .byte-at .ensures .0)) (sym (c .before .before .byte-at2 .ensures .0)) ∙ sym (c .before .is-unknown .ensures) ∙ c .if5 .taken in
-    simp (ne-eqb _ _ (c .before .before .before .before .before .before .before .before .before .if1 .left), eq-eqb _ _ (c .before .before .before .before .before .before .before .before .if2 .left), le-ltb _ _ (c .before .before .before .before .before .before .before .if3 .left), w, u)
+    let used = getD (a .used .now) (mark (classAt (a .bytes .now) (a .at)) (numberIn (a .bytes .now) (a .at))) false in
+    let e : _≡_ {A = ℕ} 9 (cond (unknown (a .limits) (classAt (a .bytes .now) (a .at)) (numberIn (a .bytes .now) (a .at)) || used) 9 0) =
+    simp (known (c .before) ∙ c .if5 .taken) in
+    e ∙ left (c .before .before .before) used
 
 mark-of-requires : tie.Need-mark-of-requires
 mark-of-requires c κs = (c .before .before .before .before .before .before .before .before .before .before .before .pre .1, sym (c .before .is-unknown .ensures) ∙ c .if5 .left)
@@ -75,26 +91,24 @@ element-copy-out-if6 : tie.Need-element-copy-out-if6
 element-copy-out-if6 c = search needs
 
 returns-6 : tie.Need-returns-6
-unfolding rowFaults
 returns-6 c =
     let a = c .before .before .before .before .before .before .before .before .before .before .before .before .before .before .args in
-    let w = row-right (a .limits) (a .bytes .now) (a .at) (a .n) (a .blocks + 1) (a .sorts .now) _ _ _ (c .before .before .before .before .before .before .before .before .before .byte-at .ensures .0) (c .before .before .before .before .before .before .before .before .place-of .ensures .0) (c .before .before .before .before .before .before .before .connector .ensures) (c .before .before .before .before .before .before .if4 .left) in
-    let u : unknown (a .limits) (classAt (a .bytes .now) (a .at)) (numberIn (a .bytes .now) (a .at)) ≡ false =
-    ap₂ (unknown (a .limits)) (sym (c .before .before .before .before .before .before .before .before .before .byte-at .ensures .0)) (sym (c .before .before .before .before .before .byte-at2 .ensures .0)) ∙ sym (c .before .before .before .before .is-unknown .ensures) ∙ c .before .before .before .if5 .left in
-    let m : getD (a .used .now) (mark (classAt (a .bytes .now) (a .at)) (numberIn (a .bytes .now) (a .at))) false ≡ true =
+    let used = getD (a .used .now) (mark (classAt (a .bytes .now) (a .at)) (numberIn (a .bytes .now) (a .at))) false in
+    let m : used ≡ true =
     ap (λ (i : ℕ). getD (a .used .now) i false) (sym (c .before .before .mark-of .ensures .0 ∙ ap₂ mark (c .before .before .before .before .before .before .before .before .before .byte-at .ensures .0) (c .before .before .before .before .before .byte-at2 .ensures .0))) ∙ c .if6 .taken in
-    simp (ne-eqb _ _ (c .before .before .before .before .before .before .before .before .before .before .before .before .if1 .left), eq-eqb _ _ (c .before .before .before .before .before .before .before .before .before .before .before .if2 .left), le-ltb _ _ (c .before .before .before .before .before .before .before .before .before .before .if3 .left), w, u, m)
+    let e : _≡_ {A = ℕ} 9 (cond (unknown (a .limits) (classAt (a .bytes .now) (a .at)) (numberIn (a .bytes .now) (a .at)) || used) 9 0) =
+    simp (known (c .before .before .before .before) ∙ c .before .before .before .if5 .left, m) in
+    e ∙ left (c .before .before .before .before .before .before) used
 
 returns-7 : tie.Need-returns-7
-unfolding rowFaults
 returns-7 c =
     let a = c .before .before .before .before .before .before .before .before .before .before .before .before .before .before .args in
-    let w = row-right (a .limits) (a .bytes .now) (a .at) (a .n) (a .blocks + 1) (a .sorts .now) _ _ _ (c .before .before .before .before .before .before .before .before .before .byte-at .ensures .0) (c .before .before .before .before .before .before .before .before .place-of .ensures .0) (c .before .before .before .before .before .before .before .connector .ensures) (c .before .before .before .before .before .before .if4 .left) in
-    let u : unknown (a .limits) (classAt (a .bytes .now) (a .at)) (numberIn (a .bytes .now) (a .at)) ≡ false =
-    ap₂ (unknown (a .limits)) (sym (c .before .before .before .before .before .before .before .before .before .byte-at .ensures .0)) (sym (c .before .before .before .before .before .byte-at2 .ensures .0)) ∙ sym (c .before .before .before .before .is-unknown .ensures) ∙ c .before .before .before .if5 .left in
-    let m : getD (a .used .now) (mark (classAt (a .bytes .now) (a .at)) (numberIn (a .bytes .now) (a .at))) false ≡ false =
+    let used = getD (a .used .now) (mark (classAt (a .bytes .now) (a .at)) (numberIn (a .bytes .now) (a .at))) false in
+    let m : used ≡ false =
     ap (λ (i : ℕ). getD (a .used .now) i false) (sym (c .before .before .mark-of .ensures .0 ∙ ap₂ mark (c .before .before .before .before .before .before .before .before .before .byte-at .ensures .0) (c .before .before .before .before .before .byte-at2 .ensures .0))) ∙ c .if6 .left in
-    simp (ne-eqb _ _ (c .before .before .before .before .before .before .before .before .before .before .before .before .if1 .left), eq-eqb _ _ (c .before .before .before .before .before .before .before .before .before .before .before .if2 .left), le-ltb _ _ (c .before .before .before .before .before .before .before .before .before .before .if3 .left), w, u, m)
+    let e : _≡_ {A = ℕ} 0 (cond (unknown (a .limits) (classAt (a .bytes .now) (a .at)) (numberIn (a .bytes .now) (a .at)) || used) 9 0) =
+    simp (known (c .before .before .before .before) ∙ c .before .before .before .if5 .left, m) in
+    e ∙ left (c .before .before .before .before .before .before) used
 
 pub row-number-spec : {M : Type 1} → statement M
 row-number-spec =

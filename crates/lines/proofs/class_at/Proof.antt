@@ -1,4 +1,4 @@
--- `lines::class_at` meets its contract. Assumes nothing.
+-- `lines::class_at` meets its contract: connectors stand one behind the other, three bytes each. Assumes nothing.
 use mathlib.Core.Path.{sym, _∙_, ap}
 use Rattle.connectors.specs.Connectors.{Connector}
 use Rattle.lines.proofs.Laws.{connector-in, connector-out}

@@ -1,4 +1,4 @@
--- `lines::line_at` meets its contract. Assumes nothing.
+-- `lines::line_at` meets its contract: a block without a fault lies within the bytes, and its parameters are allowed. Assumes nothing.
 use mathlib.Core.Path.{_≡_, sym, _∙_, ap, ap₂, subst}
 use mathlib.Core.Bool.{true}
 use Prim.Native.Nat.{ℕ, _+_, _≤_}
