@@ -13,14 +13,12 @@ use Rattle.refusals.specs.Limited.{Modest}
 use Rattle.refusals.specs.Answers.{refusedAt, acceptedWith}
 use Rattle.refusals.specs.declared.Limits.{Limits}
 use Rattle.connectors.proofs.Laws.{or-false-right}
-use Rattle.blockfield.specs.BlockField.{signedAt, indexFrom, blockFaults}
-use Rattle.fields.specs.Fields.{headerFaults, labelFaults, rowFaults, endFaults, classAt, numberIn}
 use Rattle.fields.specs.Marks.{mark}
 use Rattle.fields.proofs.Laws.{mark-below}
-use Rattle.decoding.specs.Decoded.{State, sortsOf, indexUsed, destinationUsed, sizeAt, nextAt, headerTaken, blockTaken, labelTaken, rowTaken, endTaken, nothing, circuitOf, blockAt}
+use Rattle.decoding.specs.Decoded.{headerIn, blockIn, labelIn, rowIn, endIn, State, indexUsed, destinationUsed, sizeAt, nextAt, headerTaken, blockTaken, labelTaken, rowTaken, endTaken, nothing, circuitOf, blockAt}
 use Rattle.circuit.specs.Circuit.{isCut, byTag, tagFaults, fieldFaults, fieldNumber, taken, closing, walk, refused, accepted, verdictAt, answerTo, answerAt}
 use Rattle.decoding.specs.Held.{rowsAt, Seen, seenOf, Judged, Judges, Sound, Holds}
-use Rattle.circuit.specs.Judged.{Says}
+use Rattle.circuit.specs.Judged.{Answers, Says}
 use Rattle.decoding.specs.declared.Head.{Head}
 use Rattle.circuit.specs.declared.Outcome.{Outcome}
 use Rattle.decoding.proofs.Right.{first-not}
@@ -99,30 +97,30 @@ module _ (limits : Limits) (s : List ℕ) (at size : ℕ) (q : size ≡ sizeAt s
         (sym is-then)
         j
 
-  pub field-header : (r : Judged) → getD s at 0 ≡ 0x01 → Judges limits s (lowest (headerFaults limits s at size (st .stage))) ((at + 3) + size) (headerTaken s at st) r → Judges limits s (fieldNumber limits s at st) (nextAt s at) (taken s at st) r
+  pub field-header : (r : Judged) → getD s at 0 ≡ 0x01 → Judges limits s (lowest (headerIn limits s at size st)) ((at + 3) + size) (headerTaken s at st) r → Judges limits s (fieldNumber limits s at st) (nextAt s at) (taken s at st) r
   unfolding tagFaults taken
   field-header r t j =
-      by-tag (λ z. headerFaults limits s at z (st .stage)) (headerTaken s at st) (tag-header _ _ _ _ _ _ _ t) (tag-header _ _ _ _ _ _ _ t) r j
+      by-tag (λ z. headerIn limits s at z st) (headerTaken s at st) (tag-header _ _ _ _ _ _ _ t) (tag-header _ _ _ _ _ _ _ t) r j
 
-  pub field-block : (r : Judged) → getD s at 0 ≡ 0x10 → Judges limits s (lowest (blockFaults limits s at size (st .stage) (st .n) (length (st .blocks)) (sortsOf (st .blocks)) (indexUsed (signedAt s (indexFrom at)) (st .blocks)))) ((at + 3) + size) (blockTaken s at st) r → Judges limits s (fieldNumber limits s at st) (nextAt s at) (taken s at st) r
+  pub field-block : (r : Judged) → getD s at 0 ≡ 0x10 → Judges limits s (lowest (blockIn limits s at size st)) ((at + 3) + size) (blockTaken s at st) r → Judges limits s (fieldNumber limits s at st) (nextAt s at) (taken s at st) r
   unfolding tagFaults taken
   field-block r t j =
-      by-tag (λ z. blockFaults limits s at z (st .stage) (st .n) (length (st .blocks)) (sortsOf (st .blocks)) (indexUsed (signedAt s (indexFrom at)) (st .blocks))) (blockTaken s at st) (tag-block _ _ _ _ _ _ _ t) (tag-block _ _ _ _ _ _ _ t) r j
+      by-tag (λ z. blockIn limits s at z st) (blockTaken s at st) (tag-block _ _ _ _ _ _ _ t) (tag-block _ _ _ _ _ _ _ t) r j
 
-  pub field-label : (r : Judged) → getD s at 0 ≡ 0x20 → Judges limits s (lowest (labelFaults size (st .stage))) ((at + 3) + size) (labelTaken s at st) r → Judges limits s (fieldNumber limits s at st) (nextAt s at) (taken s at st) r
+  pub field-label : (r : Judged) → getD s at 0 ≡ 0x20 → Judges limits s (lowest (labelIn size st)) ((at + 3) + size) (labelTaken s at st) r → Judges limits s (fieldNumber limits s at st) (nextAt s at) (taken s at st) r
   unfolding tagFaults taken
   field-label r t j =
-      by-tag (λ z. labelFaults z (st .stage)) (labelTaken s at st) (tag-label _ _ _ _ _ _ _ t) (tag-label _ _ _ _ _ _ _ t) r j
+      by-tag (λ z. labelIn z st) (labelTaken s at st) (tag-label _ _ _ _ _ _ _ t) (tag-label _ _ _ _ _ _ _ t) r j
 
-  pub field-row : (r : Judged) → getD s at 0 ≡ 0x30 → Judges limits s (lowest (rowFaults limits s at size (st .stage) (st .n) (length (st .blocks)) (sortsOf (st .blocks)) (destinationUsed (classAt s at) (numberIn s at) (st .rows)))) ((at + 3) + size) (rowTaken s at st) r → Judges limits s (fieldNumber limits s at st) (nextAt s at) (taken s at st) r
+  pub field-row : (r : Judged) → getD s at 0 ≡ 0x30 → Judges limits s (lowest (rowIn limits s at size st)) ((at + 3) + size) (rowTaken s at st) r → Judges limits s (fieldNumber limits s at st) (nextAt s at) (taken s at st) r
   unfolding tagFaults taken
   field-row r t j =
-      by-tag (λ z. rowFaults limits s at z (st .stage) (st .n) (length (st .blocks)) (sortsOf (st .blocks)) (destinationUsed (classAt s at) (numberIn s at) (st .rows))) (rowTaken s at st) (tag-row _ _ _ _ _ _ _ t) (tag-row _ _ _ _ _ _ _ t) r j
+      by-tag (λ z. rowIn limits s at z st) (rowTaken s at st) (tag-row _ _ _ _ _ _ _ t) (tag-row _ _ _ _ _ _ _ t) r j
 
-  pub field-end : (r : Judged) → getD s at 0 ≡ 0x7F → Judges limits s (lowest (endFaults size (st .stage) (st .n) (length (st .blocks)))) ((at + 3) + size) (endTaken st) r → Judges limits s (fieldNumber limits s at st) (nextAt s at) (taken s at st) r
+  pub field-end : (r : Judged) → getD s at 0 ≡ 0x7F → Judges limits s (lowest (endIn size st)) ((at + 3) + size) (endTaken st) r → Judges limits s (fieldNumber limits s at st) (nextAt s at) (taken s at st) r
   unfolding tagFaults taken
   field-end r t j =
-      by-tag (λ z. endFaults z (st .stage) (st .n) (length (st .blocks))) (endTaken st) (tag-end _ _ _ _ _ _ _ t) (tag-end _ _ _ _ _ _ _ t) r j
+      by-tag (λ z. endIn z st) (endTaken st) (tag-end _ _ _ _ _ _ _ t) (tag-end _ _ _ _ _ _ _ t) r j
 
   pub field-other : (getD s at 0 ≡ 0x01 → ⊥) → (getD s at 0 ≡ 0x10 → ⊥) → (getD s at 0 ≡ 0x20 → ⊥) → (getD s at 0 ≡ 0x30 → ⊥) → (getD s at 0 ≡ 0x7F → ⊥) → 2 ≡ fieldNumber limits s at st
   unfolding tagFaults
@@ -160,9 +158,6 @@ pub begins : (limits : Limits) (s : List ℕ) (seen : Seen) → Sound (seen .hea
 unfolding verdictAt
 begins limits s seen sound h =
     record { within = omega arith; sound = sound; st = nothing; fuel = suc (length s); holds = h; enough = omega arith; same = refl }
-
-abbrev Answers : Limits → List ℕ → ℕ → Seen → Judged → Type 0
-Answers limits s at seen r = (st : State) → Holds limits s seen st → Judges limits s (fieldNumber limits s at st) (nextAt s at) (taken s at st) r
 
 module _ (limits : Limits) (s : List ℕ) (at : ℕ) (seen : Seen) (w : Reached limits s at seen) where
   going : (seen .head .stage ≡ ended → ⊥) → w .st .stage ≡ ended → ⊥

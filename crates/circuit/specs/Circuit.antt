@@ -10,9 +10,7 @@ use Rattle.refusals.specs.Limited.{ours}
 use Rattle.refusals.specs.Answers.{refusedAt, acceptedWith}
 use Rattle.refusals.specs.declared.Limits.{Limits}
 use Rattle.refusals.specs.declared.Answer.{Answer}
-use Rattle.blockfield.specs.BlockField.{signedAt, indexFrom, blockFaults}
-use Rattle.fields.specs.Fields.{headerFaults, labelFaults, rowFaults, endFaults, classAt, numberIn}
-use Rattle.decoding.specs.Decoded.{Circuit, State, nothing, circuitOf, sortsOf, indexUsed, destinationUsed, sizeAt, nextAt, headerTaken, blockTaken, labelTaken, rowTaken, endTaken}
+use Rattle.decoding.specs.Decoded.{Circuit, State, nothing, circuitOf, sizeAt, nextAt, headerIn, blockIn, labelIn, rowIn, endIn, headerTaken, blockTaken, labelTaken, rowTaken, endTaken}
 
 -- ---- the field at a place, by its tag
 
@@ -26,13 +24,11 @@ byTag tag header block label row end other =
 unfoldable pub tagFaults : Limits → List ℕ → ℕ → State → List Fault
 tagFaults limits s at st =
     byTag (getD s at 0)
-    (headerFaults limits s at (sizeAt s at) (st .stage))
-    (blockFaults limits s at (sizeAt s at) (st .stage) (st .n) (length (st .blocks)) (sortsOf (st .blocks))
-    (indexUsed (signedAt s (indexFrom at)) (st .blocks)))
-    (labelFaults (sizeAt s at) (st .stage))
-    (rowFaults limits s at (sizeAt s at) (st .stage) (st .n) (length (st .blocks)) (sortsOf (st .blocks))
-    (destinationUsed (classAt s at) (numberIn s at) (st .rows)))
-    (endFaults (sizeAt s at) (st .stage) (st .n) (length (st .blocks)))
+    (headerIn limits s at (sizeAt s at) st)
+    (blockIn limits s at (sizeAt s at) st)
+    (labelIn (sizeAt s at) st)
+    (rowIn limits s at (sizeAt s at) st)
+    (endIn (sizeAt s at) st)
     (2 when true ∷ [])
 
 -- 1: "slice ends inside a field or before the end field"

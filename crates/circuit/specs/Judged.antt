@@ -5,11 +5,16 @@ use mathlib.Core.List.{List, map}
 use lib.ListN.{length, getD, take}
 use Rattle.refusals.specs.declared.Limits.{Limits}
 use Rattle.blockfield.specs.Marked.{Lies}
-use Rattle.decoding.specs.Decoded.{Circuit, blockAt}
-use Rattle.decoding.specs.Held.{bare, rowsAt}
+use Rattle.decoding.specs.Decoded.{Circuit, State, nextAt, blockAt}
+use Rattle.decoding.specs.Held.{bare, rowsAt, Seen, Judged, Holds, Judges}
 use Rattle.decoding.specs.declared.Head.{Head}
-use Rattle.circuit.specs.Circuit.{verdictAt, refused, accepted}
+use Rattle.circuit.specs.Circuit.{fieldNumber, taken, verdictAt, refused, accepted}
 use Rattle.circuit.specs.declared.Outcome.{Outcome}
+
+-- for every state that is held, the field at a place is told by its number, and what is held then is the state with the field added
+abbrev pub Answers : Limits → List ℕ → ℕ → Seen → Judged → Type 0
+Answers limits s at seen r =
+    (st : State) → Holds limits s seen st → Judges limits s (fieldNumber limits s at st) (nextAt s at) (taken s at st) r
 
 -- an accepted circuit: where its blocks and its rows stand
 pub record Accepts (limits : Limits) (s : List ℕ) (head : Head) (offsets : List ℕ) : Type 0 where

@@ -5,10 +5,9 @@ ghost use Prim.Native.Nat.{_≤_};
 ghost use lib.ListN.{length, replicate};
 ghost use Rattle.kinds.specs.Table.{kindsTable};
 ghost use Rattle.refusals.specs.Limited.{Modest};
-ghost use Rattle.decoding.specs.Decoded.{State, nextAt};
-ghost use Rattle.decoding.specs.Held.{Sound, Holds, Judges, seenOf, judgedOf};
-ghost use Rattle.circuit.specs.Circuit.{fieldNumber, taken, answerOf};
-ghost use Rattle.circuit.specs.Judged.{Says};
+ghost use Rattle.decoding.specs.Held.{Sound, seenOf, judgedOf};
+ghost use Rattle.circuit.specs.Circuit.{answerOf};
+ghost use Rattle.circuit.specs.Judged.{Answers, Says};
 use decoding::Head;
 use decoding::Step;
 use kinds::KindTable;
@@ -40,7 +39,7 @@ fn field(
     registers: &mut [bool; 4],
 ) -> Step
     requires { ⌜ (now kinds ≡ kindsTable) × (at ≤ length (now bytes)) × Sound head at × Modest limits × (head .stage ≡ 4 → ⊥) ⌝ }
-    ensures { λ r. ⌜ ((st : State) → Holds limits (now (bytes .entry)) (seenOf head (now (offsets .entry)) (now (sorts .entry)) (now (used .entry)) (now (registers .entry))) st → Judges limits (now (bytes .entry)) (fieldNumber limits (now (bytes .entry)) at st) (nextAt (now (bytes .entry)) at) (taken (now (bytes .entry)) at st) (judgedOf r (now (offsets .exit)) (now (sorts .exit)) (now (used .exit)) (now (registers .exit)))) ⌝ }
+    ensures { λ r. ⌜ Answers limits (now (bytes .entry)) at (seenOf head (now (offsets .entry)) (now (sorts .entry)) (now (used .entry)) (now (registers .entry))) (judgedOf r (now (offsets .exit)) (now (sorts .exit)) (now (used .exit)) (now (registers .exit))) ⌝ }
 {
     if bytes.len() - at < 3 {
         return decoding::faulty(1, at, head);

@@ -24,7 +24,7 @@ use Rattle.blockfield.proofs.Laws.{index-range}
 use Rattle.fields.specs.Fields.{headerFaults, labelFaults, rowFaults, endFaults, classAt, numberIn}
 use Rattle.fields.specs.Marks.{mark}
 use Rattle.fields.proofs.Laws.{known-destination}
-use Rattle.decoding.specs.Decoded.{Block, Row, State, isAnalogBlock, sortsOf, indexOf, same, indexUsed, destinationUsed, contentAt, blockAt, rowAt, withLabel, labelled, headerTaken, blockTaken, labelTaken, rowTaken, endTaken}
+use Rattle.decoding.specs.Decoded.{headerIn, blockIn, labelIn, rowIn, endIn, Block, Row, State, isAnalogBlock, indexOf, same, indexUsed, destinationUsed, contentAt, blockAt, rowAt, withLabel, labelled, headerTaken, blockTaken, labelTaken, rowTaken, endTaken}
 use Rattle.decoding.specs.Held.{bare, rowsAt, registersAfter, Seen, Judged, judgedOf, Judges, Sound, Holds}
 use Rattle.decoding.specs.declared.Head.{Head}
 use Rattle.decoding.specs.declared.Step.{Step}
@@ -104,19 +104,19 @@ module _ (limits : Limits) (s : List ℕ) (at size : ℕ) (seen : Seen) (st : St
   endHere = lowest (endFaults size (seen .head .stage) (seen .head .n) (seen .head .blocks))
 
   abbrev pub headerNumber : ℕ
-  headerNumber = lowest (headerFaults limits s at size (st .stage))
+  headerNumber = lowest (headerIn limits s at size st)
 
   abbrev pub blockNumber : ℕ
-  blockNumber = lowest (blockFaults limits s at size (st .stage) (st .n) (length (st .blocks)) (sortsOf (st .blocks)) (indexUsed (signedAt s (indexFrom at)) (st .blocks)))
+  blockNumber = lowest (blockIn limits s at size st)
 
   abbrev pub labelNumber : ℕ
-  labelNumber = lowest (labelFaults size (st .stage))
+  labelNumber = lowest (labelIn size st)
 
   abbrev pub rowNumber : ℕ
-  rowNumber = lowest (rowFaults limits s at size (st .stage) (st .n) (length (st .blocks)) (sortsOf (st .blocks)) (destinationUsed (classAt s at) (numberIn s at) (st .rows)))
+  rowNumber = lowest (rowIn limits s at size st)
 
   abbrev pub endNumber : ℕ
-  endNumber = lowest (endFaults size (st .stage) (st .n) (length (st .blocks)))
+  endNumber = lowest (endIn size st)
 
   pub header-same : headerHere ≡ headerNumber
   header-same = ap (λ (x : ℕ). lowest (headerFaults limits s at size x)) (h .stage)

@@ -1,18 +1,20 @@
--- Document 01, "Circuit bytes": what a circuit is made of, and what each field adds to it.
+-- Document 01, "Circuit bytes": what a circuit is made of; what holds for each field of it, and what the field adds.
 use Prim.Native.Nat.{ℕ, _+_}
 use mathlib.Core.Bool.{Bool, false, _&&_, _||_}
 use mathlib.Core.List.{List, [], _∷_, _++_, map}
 use mathlib.Core.Option.{Option, none, some}
 use lib.Dec.{eqb}
-use lib.ListN.{getD, take, drop}
+use lib.ListN.{length, getD, take, drop}
 use lib.IntN.{ℤ}
 use lib.Signed.{leZ}
 use Rattle.words.specs.Bytes.{numberAt}
 use Rattle.kinds.specs.Kinds.{kindOf, isAnalog, parameter}
 use Rattle.refusals.specs.Stages.{opening, amongBlocks, afterBlock, amongRows, ended}
+use Rattle.refusals.specs.Faults.{Fault}
+use Rattle.refusals.specs.declared.Limits.{Limits}
 use Rattle.connectors.specs.Connectors.{Connector, connectorAt}
-use Rattle.blockfield.specs.BlockField.{kindAt, optionAt, digitalsAt, analogsAt, parametersAt, shiftRegister}
-use Rattle.fields.specs.Fields.{classAt, numberIn}
+use Rattle.blockfield.specs.BlockField.{kindAt, optionAt, digitalsAt, analogsAt, parametersAt, signedAt, shiftRegister, indexFrom, blockFaults}
+use Rattle.fields.specs.Fields.{headerFaults, labelFaults, rowFaults, endFaults, classAt, numberIn}
 
 -- ---- what a circuit is made of
 
@@ -84,6 +86,27 @@ contentAt s at = take (sizeAt s at) (drop (at + 3) s)
 -- where the next one begins
 abbrev pub nextAt : List ℕ → ℕ → ℕ
 nextAt s at = at + 3 + sizeAt s at
+
+-- ---- what holds for a field of `size` bytes of content, given what the earlier ones decoded to
+
+abbrev pub headerIn : Limits → List ℕ → ℕ → ℕ → State → List Fault
+headerIn limits s at size st = headerFaults limits s at size (st .stage)
+
+abbrev pub blockIn : Limits → List ℕ → ℕ → ℕ → State → List Fault
+blockIn limits s at size st =
+    blockFaults limits s at size (st .stage) (st .n) (length (st .blocks)) (sortsOf (st .blocks))
+    (indexUsed (signedAt s (indexFrom at)) (st .blocks))
+
+abbrev pub labelIn : ℕ → State → List Fault
+labelIn size st = labelFaults size (st .stage)
+
+abbrev pub rowIn : Limits → List ℕ → ℕ → ℕ → State → List Fault
+rowIn limits s at size st =
+    rowFaults limits s at size (st .stage) (st .n) (length (st .blocks)) (sortsOf (st .blocks))
+    (destinationUsed (classAt s at) (numberIn s at) (st .rows))
+
+abbrev pub endIn : ℕ → State → List Fault
+endIn size st = endFaults size (st .stage) (st .n) (length (st .blocks))
 
 -- ---- what a field without a fault adds
 

@@ -7,6 +7,7 @@ use mathlib.Core.Option.{none}
 use lib.Dec.{eqb}
 use lib.ListN.{length, getD, take, set}
 use lib.IntN.{pos}
+use Rattle.refusals.specs.Faults.{Fault, lowest}
 use Rattle.refusals.specs.Stages.{opening, amongRows, ended}
 use Rattle.refusals.specs.declared.Limits.{Limits}
 use Rattle.blockfield.specs.BlockField.{kindAt, shiftRegister}
@@ -83,3 +84,7 @@ pub record Judges (limits : Limits) (s : List ℕ) (number : ℕ) (next : ℕ) (
   pub next-is : r .number ≡ 0 → r .next ≡ next
   pub holds : r .number ≡ 0 → Holds limits s (r .seen) then
   pub sound : r .number ≡ 0 → Sound (r .seen .head) (r .next)
+
+-- for every state that is held, a field's numbers are those of the state, and what is held then is the state with the field added
+abbrev pub Adds : Limits → List ℕ → Seen → (State → List Fault) → ℕ → (State → State) → Judged → Type 0
+Adds limits s seen faults next then r = (st : State) → Holds limits s seen st → Judges limits s (lowest (faults st)) next (then st) r

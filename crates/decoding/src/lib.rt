@@ -7,13 +7,11 @@ ghost use lib.ListN.{length};
 ghost use lib.IntN.{pos};
 ghost use Rattle.words.specs.Signed.{Between};
 ghost use Rattle.kinds.specs.Table.{kindsTable};
-ghost use Rattle.refusals.specs.Faults.{lowest};
 ghost use Rattle.refusals.specs.Limited.{Modest};
 ghost use Rattle.refusals.specs.declared.Limits.{Limits};
-ghost use Rattle.blockfield.specs.BlockField.{kindAt, signedAt, indexFrom, shiftRegister, blockFaults};
-ghost use Rattle.fields.specs.Fields.{classAt, numberIn, headerFaults, labelFaults, rowFaults, endFaults};
-ghost use Rattle.decoding.specs.Decoded.{State, headerTaken, blockTaken, labelTaken, rowTaken, endTaken, sortsOf, destinationUsed, indexUsed};
-ghost use Rattle.decoding.specs.Held.{Sound, Holds, Judges, seenOf, judgedOf, registersAfter};
+ghost use Rattle.blockfield.specs.BlockField.{kindAt, signedAt, indexFrom, shiftRegister};
+ghost use Rattle.decoding.specs.Decoded.{headerIn, blockIn, labelIn, rowIn, endIn, headerTaken, blockTaken, labelTaken, rowTaken, endTaken};
+ghost use Rattle.decoding.specs.Held.{Sound, Adds, seenOf, judgedOf, registersAfter};
 use kinds::KindTable;
 use refusals::Limits;
 
@@ -57,7 +55,7 @@ pub fn faulty(number: u8, at: usize, head: Head) -> Step
 // The header.
 pub fn header(limits: Limits, bytes: &[u8], at: usize, size: usize, head: Head) -> Step
     requires { ⌜ ((at + 3) + size ≤ length (now bytes)) × Sound head at × Modest limits ⌝ }
-    ensures { λ r. ⌜ ((offsets : List ℕ) (sorts used registers : List Bool) (st : State) → Holds limits (now (bytes .entry)) (seenOf head offsets sorts used registers) st → Judges limits (now (bytes .entry)) (lowest (headerFaults limits (now (bytes .entry)) at size (st .stage))) ((at + 3) + size) (headerTaken (now (bytes .entry)) at st) (judgedOf r offsets sorts used registers)) ⌝ }
+    ensures { λ r. ⌜ ((offsets : List ℕ) (sorts used registers : List Bool) → Adds limits (now (bytes .entry)) (seenOf head offsets sorts used registers) (headerIn limits (now (bytes .entry)) at size) ((at + 3) + size) (headerTaken (now (bytes .entry)) at) (judgedOf r offsets sorts used registers)) ⌝ }
 {
     let number = fields::header_number(limits, bytes, at, size, head.stage);
     if number != 0 {
@@ -103,7 +101,7 @@ pub fn block(
     registers: &mut [bool; 4],
 ) -> Step
     requires { ⌜ (now kinds ≡ kindsTable) × ((at + 3) + size ≤ length (now bytes)) × Sound head at × (head .stage ≡ 4 → ⊥) ⌝ }
-    ensures { λ r. ⌜ ((used : List Bool) (st : State) → Holds limits (now (bytes .entry)) (seenOf head (now (offsets .entry)) (now (sorts .entry)) used (now (registers .entry))) st → Judges limits (now (bytes .entry)) (lowest (blockFaults limits (now (bytes .entry)) at size (st .stage) (st .n) (length (st .blocks)) (sortsOf (st .blocks)) (indexUsed (signedAt (now (bytes .entry)) (indexFrom at)) (st .blocks)))) ((at + 3) + size) (blockTaken (now (bytes .entry)) at st) (judgedOf r (now (offsets .exit)) (now (sorts .exit)) used (now (registers .exit)))) ⌝ }
+    ensures { λ r. ⌜ ((used : List Bool) → Adds limits (now (bytes .entry)) (seenOf head (now (offsets .entry)) (now (sorts .entry)) used (now (registers .entry))) (blockIn limits (now (bytes .entry)) at size) ((at + 3) + size) (blockTaken (now (bytes .entry)) at) (judgedOf r (now (offsets .exit)) (now (sorts .exit)) used (now (registers .exit)))) ⌝ }
 {
     let number = blockfield::block_number(
         limits,
@@ -143,7 +141,7 @@ pub fn block(
 // A label.
 pub fn label(at: usize, size: usize, head: Head, len: usize) -> Step
     requires { ⌜ ((at + 3) + size ≤ len) × Sound head at ⌝ }
-    ensures { λ r. ⌜ ((limits : Limits) (s offsets : List ℕ) (sorts used registers : List Bool) (st : State) → Holds limits s (seenOf head offsets sorts used registers) st → Judges limits s (lowest (labelFaults size (st .stage))) ((at + 3) + size) (labelTaken s at st) (judgedOf r offsets sorts used registers)) ⌝ }
+    ensures { λ r. ⌜ ((limits : Limits) (s offsets : List ℕ) (sorts used registers : List Bool) → Adds limits s (seenOf head offsets sorts used registers) (labelIn size) ((at + 3) + size) (labelTaken s at) (judgedOf r offsets sorts used registers)) ⌝ }
 {
     let number = fields::label_number(size, head.stage);
     if number != 0 {
@@ -174,7 +172,7 @@ pub fn row(
     used: &mut [bool; 156],
 ) -> Step
     requires { ⌜ ((at + 3) + size ≤ length (now bytes)) × Sound head at × Modest limits × (head .stage ≡ 4 → ⊥) ⌝ }
-    ensures { λ r. ⌜ ((offsets : List ℕ) (registers : List Bool) (st : State) → Holds limits (now (bytes .entry)) (seenOf head offsets (now (sorts .entry)) (now (used .entry)) registers) st → Judges limits (now (bytes .entry)) (lowest (rowFaults limits (now (bytes .entry)) at size (st .stage) (st .n) (length (st .blocks)) (sortsOf (st .blocks)) (destinationUsed (classAt (now (bytes .entry)) at) (numberIn (now (bytes .entry)) at) (st .rows)))) ((at + 3) + size) (rowTaken (now (bytes .entry)) at st) (judgedOf r offsets (now (sorts .entry)) (now (used .exit)) registers)) ⌝ }
+    ensures { λ r. ⌜ ((offsets : List ℕ) (registers : List Bool) → Adds limits (now (bytes .entry)) (seenOf head offsets (now (sorts .entry)) (now (used .entry)) registers) (rowIn limits (now (bytes .entry)) at size) ((at + 3) + size) (rowTaken (now (bytes .entry)) at) (judgedOf r offsets (now (sorts .entry)) (now (used .exit)) registers)) ⌝ }
 {
     let number = fields::row_number(
         limits,
@@ -210,7 +208,7 @@ pub fn row(
 // The end field.
 pub fn end(at: usize, size: usize, head: Head, len: usize) -> Step
     requires { ⌜ ((at + 3) + size ≤ len) × Sound head at × (head .stage ≡ 4 → ⊥) ⌝ }
-    ensures { λ r. ⌜ ((limits : Limits) (s offsets : List ℕ) (sorts used registers : List Bool) (st : State) → Holds limits s (seenOf head offsets sorts used registers) st → Judges limits s (lowest (endFaults size (st .stage) (st .n) (length (st .blocks)))) ((at + 3) + size) (endTaken st) (judgedOf r offsets sorts used registers)) ⌝ }
+    ensures { λ r. ⌜ ((limits : Limits) (s offsets : List ℕ) (sorts used registers : List Bool) → Adds limits s (seenOf head offsets sorts used registers) (endIn size) ((at + 3) + size) endTaken (judgedOf r offsets sorts used registers)) ⌝ }
 {
     let number = fields::end_number(size, head.stage, head.n, head.blocks);
     if number != 0 {
