@@ -21,10 +21,17 @@ pub struct Outcome {
     pub head: Head,
 }
 
-// The stages of a circuit: the header is awaited; the end field was read.
-const OPENING: u8 = 0;
-
+// The stage of a circuit whose end field was read.
 const ENDED: u8 = 4;
+
+// Before the header.
+const NOTHING: Head = Head {
+    stage: 0,
+    n: 0,
+    blocks: 0,
+    rows: 0,
+    start: 0,
+};
 
 // The field at a place, by its tag.
 fn field(
@@ -91,13 +98,7 @@ fn pass(
     ensures { λ r. ⌜ Says limits (now (circuit .entry)) r (now (offsets .exit)) ⌝ }
 {
     let mut at = 0usize;
-    let mut head = Head {
-        stage: OPENING,
-        n: 0,
-        blocks: 0,
-        rows: 0,
-        start: 0,
-    };
+    let mut head = NOTHING;
     while head.stage != ENDED {
         let step = field(
             limits,

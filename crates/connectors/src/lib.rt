@@ -15,8 +15,8 @@ pub const ANALOG_INPUT: usize = 1;
 
 pub const UNKNOWN_ROW: usize = 4;
 
-// Bit 10 * place + class: whether the place takes the class.
-const TAKES: usize = 1089478683656287;
+// Bit 10 * place + class: whether the place takes the class. Ten bits a place, class 9 to 0, from place 4 to 0.
+const TAKES: usize = 0b1111011110_1110000000_0001011110_1110000000_0001011111;
 
 // Whether a place takes a class.
 fn takes_class(place: usize, class: usize) -> bool
@@ -26,8 +26,8 @@ fn takes_class(place: usize, class: usize) -> bool
     (TAKES >> (place * 10 + class)) % 2 == 1
 }
 
-// Bit of a class 0 to 9: whether it cannot be inverted.
-const PLAIN: usize = 929;
+// Bit of a class, 9 to 0: whether it cannot be inverted.
+const PLAIN: usize = 0b1110100001;
 
 // Whether a class byte inverts what cannot be inverted.
 fn wrongly_inverted(byte: usize, class: usize) -> bool
@@ -60,8 +60,8 @@ fn greatest_of(limits: Limits, class: usize) -> usize
     0
 }
 
-// Bit of a class 0 to 9: its least number.
-const LEAST: usize = 978;
+// Bit of a class, 9 to 0: its least number.
+const LEAST: usize = 0b1111010010;
 
 // Whether a number is out of the range of a class that names no block.
 fn out_of_range(limits: Limits, class: usize, number: usize) -> bool

@@ -86,8 +86,8 @@ fn limit_of(limits: Limits, class: usize) -> usize
     0
 }
 
-// Three bits for each destination class 0 to 4: where its connector stands.
-const PLACES: usize = 13972;
+// A digit of three bits for each destination class, 4 to 0: where its connector stands.
+const PLACES: usize = 0o33224;
 
 // Where the connector of a destination class stands.
 fn place_of(class: usize) -> usize
@@ -109,8 +109,8 @@ fn is_unknown(limits: Limits, class: usize, number: usize) -> bool
     limit_of(limits, class) < number
 }
 
-// Seven bits for each destination class 0 to 4: what stands before its marks.
-const BASES: usize = 24872550400;
+// Seven bits for each destination class, 4 to 0: the marks before its own, 92, 84, 20, 0, 0.
+const BASES: usize = 0b1011100_1010100_0010100_0000000_0000000;
 
 // The mark of a destination.
 pub fn mark_of(limits: Limits, class: usize, number: usize) -> usize
