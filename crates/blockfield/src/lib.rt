@@ -13,15 +13,12 @@ ghost use Rattle.connectors.specs.Connectors.{sixOrSeven};
 ghost use Rattle.blockfield.specs.BlockField.{digitalsAt, analogsAt, parametersAt, signedAt, signedsAt, mostOption, wrongInputs, laterInputs, indexFrom, blockFaults};
 ghost use Rattle.blockfield.specs.Marked.{indexMark, fourOf, knownFaults};
 use kinds::KindTable;
+use refusals::AMONG_ROWS;
 use refusals::Limits;
+use refusals::OPENING;
 
-// The stages of a circuit: the header is awaited; the last field was a row.
-const OPENING: u8 = 0;
-
-const AMONG_ROWS: u8 = 3;
-
-// Shift register.
-const REGISTER: usize = 12;
+// The kind of a shift register.
+pub const REGISTER: usize = 12;
 
 // Whether a block of a known kind cannot have a content of this length. That of an unknown kind is not judged.
 fn wrong_length(kinds: &KindTable, kind: usize, size: usize) -> bool

@@ -12,7 +12,9 @@ use decoding::Head;
 use decoding::Step;
 use kinds::KindTable;
 use refusals::Answer;
+use refusals::ENDED;
 use refusals::Limits;
+use refusals::OPENING;
 
 // Refusal number or 0, its place, and what is known of an accepted circuit.
 pub struct Outcome {
@@ -21,12 +23,9 @@ pub struct Outcome {
     pub head: Head,
 }
 
-// The stage of a circuit whose end field was read.
-const ENDED: u8 = 4;
-
 // Before the header.
 const NOTHING: Head = Head {
-    stage: 0,
+    stage: OPENING,
     n: 0,
     blocks: 0,
     rows: 0,

@@ -13,6 +13,10 @@ ghost use Rattle.blockfield.specs.BlockField.{kindAt, signedAt, indexFrom, shif
 ghost use Rattle.decoding.specs.Decoded.{headerIn, blockIn, labelIn, rowIn, endIn, headerTaken, blockTaken, labelTaken, rowTaken, endTaken};
 ghost use Rattle.decoding.specs.Held.{Sound, Adds, seenOf, judgedOf, registersAfter};
 use kinds::KindTable;
+use refusals::AFTER_BLOCK;
+use refusals::AMONG_BLOCKS;
+use refusals::AMONG_ROWS;
+use refusals::ENDED;
 use refusals::Limits;
 
 // What the pass carries from field to field, beside the lent arrays: the stage, n of the header, blocks and rows so far, and where the
@@ -31,15 +35,6 @@ pub struct Step {
     pub next: usize,
     pub head: Head,
 }
-
-// The stages of a circuit.
-const AMONG_BLOCKS: u8 = 1;
-
-const AFTER_BLOCK: u8 = 2;
-
-const AMONG_ROWS: u8 = 3;
-
-const ENDED: u8 = 4;
 
 // A field with a fault: nothing is carried on.
 pub fn faulty(number: u8, at: usize, head: Head) -> Step
@@ -81,7 +76,7 @@ fn mark_register(bytes: &[u8], at: usize, kind: usize, registers: &mut [bool; 4]
     requires { ⌜ (kind ≡ kindAt (now bytes) at) × (kind ≡ shiftRegister → (indexFrom at + 4 ≤ length (now bytes)) × Between (pos 1) (pos 4) (signedAt (now bytes) (indexFrom at))) ⌝ }
     ensures { λ _. ⌜ now (registers .exit) ≡ registersAfter (now (bytes .entry)) at (now (registers .entry)) ⌝ }
 {
-    if kind != 12 {
+    if kind != blockfield::REGISTER {
         return;
     }
     let index = blockfield::index_mark(bytes, at);

@@ -7,12 +7,9 @@ ghost use Rattle.refusals.specs.Faults.{lowest};
 ghost use Rattle.refusals.specs.Limited.{Modest};
 ghost use Rattle.fields.specs.Fields.{headerFaults, labelFaults, limitOf, placeOf, unknown, classAt, numberIn, rowFaults, endFaults};
 ghost use Rattle.fields.specs.Marks.{mark};
+use refusals::AFTER_BLOCK;
 use refusals::Limits;
-
-// The stages of a circuit: the header is awaited; the last field was a block.
-const OPENING: u8 = 0;
-
-const AFTER_BLOCK: u8 = 2;
+use refusals::OPENING;
 
 // The number of a header.
 pub fn header_number(limits: Limits, bytes: &[u8], at: usize, size: usize, stage: u8) -> u8

@@ -1,4 +1,4 @@
-// What every judging has in common: limits, and the answer of four numbers.
+// What every judging has in common: limits, stages, and the answer of four numbers.
 ghost use mathlib.Core.Path.{_≡_};
 ghost use Rattle.refusals.specs.Limited.{ours as oursOf};
 ghost use Rattle.refusals.specs.Answers.{refusedAt, acceptedWith};
@@ -20,6 +20,17 @@ pub struct Answer {
     pub first: usize,
     pub second: usize,
 }
+
+// The stages of a circuit: the header is awaited; the last field was the header or a label; a block; a row; the end.
+pub const OPENING: u8 = 0;
+
+pub const AMONG_BLOCKS: u8 = 1;
+
+pub const AFTER_BLOCK: u8 = 2;
+
+pub const AMONG_ROWS: u8 = 3;
+
+pub const ENDED: u8 = 4;
 
 // Our limits.
 pub fn ours() -> Limits
