@@ -1,0 +1,188 @@
+#!/usr/bin/env python3
+"""The stored circuits of crates/cases: how each is made, and the answer that this gives, written by hand.
+stored_circuits.py FOLDER: writes them to FOLDER/data, and FOLDER/args and FOLDER/stdout beside."""
+import os
+import sys
+
+
+def two(k):
+    return (k & 0xFFFF).to_bytes(2, "big")
+
+
+def four(k):
+    return (k & 0xFFFFFFFF).to_bytes(4, "big")
+
+
+def field(tag, content):
+    return bytes([tag]) + two(len(content)) + content
+
+
+def header(n, version=1):
+    return field(0x01, bytes([version]) + two(n))
+
+
+def connector(cls, number):
+    return bytes([cls]) + two(number)
+
+
+def block(kind, inputs, parameters=(), options=0):
+    return field(0x10, bytes([kind, options]) + b"".join(connector(*c) for c in inputs) + b"".join(four(p) for p in parameters))
+
+
+def label(text):
+    return field(0x20, text)
+
+
+def row(cls, number, source):
+    return field(0x30, bytes([cls, number]) + connector(*source))
+
+
+end = field(0x7F, b"")
+none, i1, i2, ai1 = (0, 0), (1, 1), (1, 2), (7, 1)
+
+
+def and_of(*inputs):  # 17 bytes
+    return block(1, list(inputs) + [none] * (4 - len(inputs)))
+
+
+def not_of(source):  # 8 bytes
+    return block(8, [source])
+
+
+def on_delay(base, t):  # 16 bytes
+    return block(9, [i1], [base, t])
+
+
+def register(index, bit, source=i1):  # 22 bytes
+    return block(12, [source, i2, none], [index, bit])
+
+
+def trigger(source, parameters=(0, 0, 0, 0)):  # 24 bytes
+    return block(13, [source], parameters)
+
+
+def multiplexer(values=(0, 0, 0, 0)):  # 30 bytes
+    return block(15, [i1, i1, i2], values)
+
+
+document_01 = header(1) + and_of(i1, i2) + row(1, 1, (6, 1)) + end
+sixteen = [
+    and_of(i1), block(2, [i1, none, none, none]), block(3, [(0x81, 24), none, none, none]), block(4, [(4, 64), none, none, none]),
+    block(5, [(6, 1), (0x86, 2), (0x82, 0), (0x83, 0)]), block(6, [(6, 5), none, none, none]), block(7, [(6, 6), i1]), not_of((6, 7)),
+    block(9, [(6, 8)], [0, 9999], 1), block(10, [(6, 9), none], [1, 5999], 1), block(11, [(6, 10), none], (), 1),
+    block(12, [(6, 11), i1, none], [4, 8], 1), block(13, [(7, 8)], [-1000, 10000, 20000, -20000]), block(14, [(8, 64), (7, 1)], [1000, -10000, -20000, 20000]),
+    block(15, [(6, 14), none, (2, 0)], [-32768, 32767, 0, -1]), block(16, [(9, 15)], [100, 0, 20000, 20000]),
+]
+destinations = [(1, k) for k in range(1, 21)] + [(2, k) for k in range(1, 65)] + [(3, k) for k in range(1, 9)] + [(4, k) for k in range(1, 65)]
+all_rows = b"".join(row(c, k, (3, 0) if c <= 2 else (8, 1)) for c, k in destinations)
+
+# name, circuit, number, place, first, second
+cases = [
+    # document 01's own
+    ("empty", b"", 1, 0, 0, 0),
+    ("document_01", document_01, 0, 0, 1, 1),
+    ("own_block", header(1) + and_of((6, 1), i2) + row(1, 1, (6, 1)) + end, 7, 6, 0, 0),
+    ("above_n", header(1) + and_of((6, 2), i2) + row(1, 1, (6, 1)) + end, 6, 6, 0, 0),
+    ("hours_5999", header(1) + on_delay(2, 5999) + end, 0, 0, 1, 0),
+    ("hours_6000", header(1) + on_delay(2, 6000) + end, 8, 6, 0, 0),
+    ("n_400", header(400) + and_of(i1) * 400 + end, 0, 0, 400, 0),
+    ("n_401", header(401) + end, 4, 0, 0, 0),
+    # accepted
+    ("no_blocks", header(0) + end, 0, 0, 0, 0),
+    ("all_kinds", header(16) + b"".join(sixteen) + row(1, 20, (6, 16)) + row(3, 8, (9, 15)) + end, 0, 0, 16, 2),
+    ("labels", header(2) + and_of(i1) + label(b"") + not_of((6, 1)) + label(bytes(range(16))) + end, 0, 0, 2, 0),
+    ("all_destinations", header(0) + all_rows + end, 0, 0, 0, 156),
+    ("four_registers", header(4) + register(3, 1) + register(1, 8) + register(4, 1) + register(2, 1) + end, 0, 0, 4, 0),
+    ("flags_exchange", header(0) + row(2, 1, (4, 2)) + row(2, 2, (4, 1)) + end, 0, 0, 0, 2),
+    # 1
+    ("one_byte", b"\x01", 1, 0, 0, 0),
+    ("header_cut", header(0)[:5], 1, 0, 0, 0),
+    ("unknown_tag_cut", b"\xff\x00\x01", 1, 0, 0, 0),
+    ("no_end_field", header(1) + and_of(i1), 1, 23, 0, 0),
+    ("no_end_field_blocks_missing", header(2) + and_of(i1), 1, 23, 0, 0),
+    ("block_too_many_cut", header(0) + and_of(i1)[:9], 1, 6, 0, 0),
+    ("end_field_cut", header(0) + end[:2], 1, 6, 0, 0),
+    # 2
+    ("end_field_first", end, 2, 0, 0, 0),
+    ("unknown_tag", header(0) + b"\x7e\x00\x00", 2, 6, 0, 0),
+    ("second_header", header(0) + header(0) + end, 2, 6, 0, 0),
+    ("header_of_two_bytes", field(0x01, b"\x01\x00") + end, 2, 0, 0, 0),
+    ("block_without_kind", header(1) + field(0x10, b"") + end, 2, 6, 0, 0),
+    ("and_of_three_inputs", header(1) + block(1, [i1, i1, i1]) + end, 2, 6, 0, 0),
+    ("block_behind_row", header(0) + row(1, 1, i1) + not_of(i1) + end, 2, 14, 0, 0),
+    ("label_behind_header", header(1) + label(b"A") + not_of(i1) + end, 2, 6, 0, 0),
+    ("label_twice", header(1) + not_of(i1) + label(b"") + label(b"A") + end, 2, 17, 0, 0),
+    ("label_of_17", header(1) + not_of(i1) + label(b"A" * 17) + end, 2, 14, 0, 0),
+    ("end_field_with_content", header(0) + b"\x7f\x00\x01\x00\x00", 2, 6, 0, 0),
+    # 3
+    ("version_0", header(0, 0) + end, 3, 0, 0, 0),
+    ("version_2", header(0, 2) + end, 3, 0, 0, 0),
+    ("version_2_n_401", header(401, 2) + end, 3, 0, 0, 0),
+    # 4
+    ("block_too_many", header(1) + not_of(i1) + label(b"AB") + not_of(i1) + end, 4, 19, 0, 0),
+    ("block_too_many_unknown_kind", header(0) + field(0x10, b"\x11") + end, 4, 6, 0, 0),
+    ("row_blocks_missing", header(2) + not_of(i1) + row(5, 0, none) + end, 4, 14, 0, 0),
+    ("end_field_blocks_missing", header(1) + end + b"\x00", 4, 6, 0, 0),
+    # 5
+    ("kind_0", header(1) + block(0, [i1]) + end, 5, 6, 0, 0),
+    ("kind_17_one_byte", header(1) + field(0x10, b"\x11") + end, 5, 6, 0, 0),
+    ("retentive_not", header(1) + block(8, [(5, 0)], (), 1) + end, 5, 6, 0, 0),
+    ("option_bit_1", header(1) + block(11, [i1, none], (), 2) + end, 5, 6, 0, 0),
+    # 6
+    ("class_5", header(1) + not_of((5, 1)) + end, 6, 6, 0, 0),
+    ("input_25", header(1) + not_of((1, 25)) + end, 6, 6, 0, 0),
+    ("unused_inverted", header(1) + not_of((0x80, 0)) + end, 6, 6, 0, 0),
+    ("unused_analog_input", header(1) + trigger(none) + end, 6, 6, 0, 0),
+    ("multiplexer_as_digital", header(2) + multiplexer() + not_of((6, 1)) + end, 6, 36, 0, 0),
+    ("later_then_class_5", header(2) + and_of((6, 2), (5, 0)) + not_of(i1) + end, 6, 6, 0, 0),
+    ("later_than_n", header(2) + not_of((6, 3)) + not_of(i1) + end, 6, 6, 0, 0),
+    ("row_unused", header(0) + row(1, 1, none) + end, 6, 6, 0, 0),
+    ("row_unknown_class_inverted_analog", header(0) + row(5, 1, (0x87, 1)) + end, 6, 6, 0, 0),
+    ("row_q21_unused", header(0) + row(1, 21, none) + end, 6, 6, 0, 0),
+    # 7
+    ("later_block", header(2) + not_of((6, 2)) + not_of(i1) + end, 7, 6, 0, 0),
+    ("later_block_of_wrong_sort", header(2) + not_of((6, 2)) + multiplexer() + end, 7, 6, 0, 0),
+    ("trigger_names_itself", header(2) + not_of(i1) + trigger((9, 2)) + end, 7, 14, 0, 0),
+    # 8
+    ("base_257", header(1) + on_delay(257, 0) + end, 8, 6, 0, 0),
+    ("seconds_10000", header(1) + on_delay(0, 10000) + end, 8, 6, 0, 0),
+    ("minutes_minus_1", header(1) + on_delay(1, -1) + end, 8, 6, 0, 0),
+    ("gain_1001", header(1) + trigger(ai1, (1001, 0, 0, 0)) + end, 8, 6, 0, 0),
+    ("value_32768", header(1) + multiplexer((0, 0, 0, 32768)) + end, 8, 6, 0, 0),
+    ("index_twice_bit_9", header(2) + register(1, 1) + register(1, 9) + end, 8, 28, 0, 0),
+    # 9
+    ("destination_class_5", header(2) + not_of(i1) + multiplexer() + row(5, 1, (6, 2)) + end, 9, 44, 0, 0),
+    ("destination_q0", header(0) + row(1, 0, i1) + end, 9, 6, 0, 0),
+    ("destination_am65", header(0) + row(4, 65, ai1) + end, 9, 6, 0, 0),
+    ("destination_twice", header(0) + row(2, 1, i1) + row(1, 1, i1) + row(2, 1, i2) + end, 9, 22, 0, 0),
+    # 10
+    ("index_twice", header(2) + register(1, 1) + register(1, 2) + end, 10, 28, 0, 0),
+    ("index_twice_apart", header(3) + register(4, 1) + label(b"A") + not_of((6, 1)) + register(4, 1) + end, 10, 40, 0, 0),
+    ("five_registers", header(5) + register(1, 1) + register(2, 1) + register(3, 1) + register(4, 1) + register(3, 2) + end, 10, 94, 0, 0),
+    # 11
+    ("one_byte_behind", header(0) + end + b"\x00", 11, 9, 0, 0),
+    ("second_end_field", header(1) + not_of(i1) + end + end, 11, 17, 0, 0),
+    ("circuit_behind", document_01 + document_01, 11, 34, 0, 0),
+    # the first field with a fault
+    ("parameter_before_tag", header(2) + on_delay(3, 0) + b"\x00\x00\x00" + end, 8, 6, 0, 0),
+]
+
+
+def main():
+    folder = sys.argv[1]
+    os.makedirs(os.path.join(folder, "data"), exist_ok=True)
+    names = [case[0] for case in cases]
+    assert len(set(names)) == len(names)
+    assert len(document_01) == 34
+    for number in range(1, 12):
+        assert sum(case[2] == number for case in cases) >= 3, number
+    for name, circuit, *answer in cases:
+        with open(os.path.join(folder, "data", name), "wb") as f:
+            f.write(circuit)
+    with open(os.path.join(folder, "args"), "w") as f:
+        f.write("".join(name + "\n" for name in names))
+    with open(os.path.join(folder, "stdout"), "w") as f:
+        f.write("".join(" ".join([case[0]] + [str(number) for number in case[2:]]) + "\n" for case in cases))
+
+
+main()
