@@ -42,6 +42,7 @@ fieldFaults limits s at st = (1 when isCut s at) ∷ tagFaults limits s at st
 unfoldable pub fieldNumber : Limits → List ℕ → ℕ → State → ℕ
 fieldNumber limits s at st = lowest (fieldFaults limits s at st)
 
+-- what a field without a fault adds
 unfoldable pub taken : List ℕ → ℕ → State → State
 taken s at st =
     byTag (getD s at 0) (headerTaken s at st) (blockTaken s at st) (labelTaken s at st) (rowTaken s at st) (endTaken st) st
