@@ -14,7 +14,7 @@ use Rattle.decoding.specs.Decoded.{State}
 use Rattle.circuit.specs.Circuit.{byTag, tagFaults, fieldFaults, fieldNumber}
 
 -- what holds for all six holds for the one that the tag takes
-by-tag : {A : Type 0} (P : A → Type 0) (tag : ℕ) (h b l r e o : A) → P h → P b → P l → P r → P e → P o → P (byTag tag h b l r e o)
+pub by-tag : {A : Type 0} (P : A → Type 0) (tag : ℕ) (h b l r e o : A) → P h → P b → P l → P r → P e → P o → P (byTag tag h b l r e o)
 unfolding byTag
 by-tag {A = A} P tag h b l r e o ph pb pl pr pe po =
     either (eqb tag 0x01) h _ ph

@@ -2,16 +2,13 @@
 -- Assumes nothing.
 use mathlib.Core.Path.{_≡_, refl, ap}
 use mathlib.Core.Logic.{_↔_}
-use mathlib.Core.Bool.{Bool, true, false, cond}
 use mathlib.Core.List.{List}
-use Prim.Native.Nat.{ℕ, zero, suc}
+use Prim.Native.Nat.{ℕ}
 use native.Mathlib.Omega.{arith}
-use lib.Dec.{eqb, ltb}
-use lib.ListN.{length}
-use Rattle.refusals.specs.Stages.{ended}
 use Rattle.refusals.specs.declared.Limits.{Limits}
-use Rattle.decoding.specs.Decoded.{Circuit, State, nothing, nextAt, circuitOf}
-use Rattle.circuit.specs.Circuit.{Verdict, accepted, refused, verdictAt, answerAt, answerTo, walk, closing, taken, fieldNumber}
+use Rattle.decoding.specs.Decoded.{Circuit, nothing}
+use Rattle.circuit.specs.Circuit.{Verdict, accepted, refused, verdictAt, answerAt, answerTo}
+use Rattle.circuit.proofs.Listed.{refusal-listed}
 use Rattle.kept.specs.Keeps.{Bytes, Keeps, encode}
 use Rattle.kept.proofs.Sound.{sound}
 use Rattle.kept.proofs.Complete.{complete}
@@ -40,29 +37,9 @@ one-circuit limits c d k l e =
 
 -- ---- what check answers
 
-module _ (limits : Limits) (s : List ℕ) where
-  -- a refusal has a number
-  refusal : (f at : ℕ) (st : State) (k p : ℕ) → walk f limits s at st ≡ refused k p → k ≡ 0 → ⊥
-  unfolding walk closing
-  refusal zero at st k p e z = let q : _≡_ {A = ℕ} 0 1 = cc in omega arith
-  refusal (suc f) at st k p e z =
-      go (eqb (st .stage) ended) (fieldNumber limits s at st) (ltb at (length s)) e (λ h. refusal f (nextAt s at) (taken s at st) k p h z)
-    where
-      go : (a : Bool) (n : ℕ) (b : Bool)
-          → elim a [
-            | true ↦ cond b (refused 11 at) (accepted (circuitOf st))
-            | false ↦ elim n [ zero ↦ walk f limits s (nextAt s at) (taken s at st) | suc j ↦ refused (suc j) at ]
-          ] ≡ refused k p
-          → (walk f limits s (nextAt s at) (taken s at st) ≡ refused k p → ⊥)
-          → ⊥
-      go true n true e more = let q : _≡_ {A = ℕ} 0 11 = cc in omega arith
-      go true n false e more = let q : _≡_ {A = ℕ} 0 1 = cc in omega arith
-      go false zero b e more = more e
-      go false (suc j) b e more = let q : _≡_ {A = ℕ} 0 (suc j) = cc in omega arith
-
-  refused-some : (k at : ℕ) → verdictAt limits s ≡ refused k at → k ≡ 0 → ⊥
-  unfolding verdictAt
-  refused-some k at q z = refusal (suc (length s)) 0 nothing k at q z
+-- a refusal has a number
+refused-some : (limits : Limits) (s : List ℕ) (k at : ℕ) → verdictAt limits s ≡ refused k at → k ≡ 0 → ⊥
+refused-some limits s k at q z = let r = refusal-listed limits s k at q in omega (arith, r .some)
 
 -- Check gives 0 exactly to the bytes of some kept circuit.
 pub check-accepts : (limits : Limits) (s : List ℕ) → Bytes s
