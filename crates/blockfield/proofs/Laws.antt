@@ -84,9 +84,10 @@ pub index-from : (at : ℕ) → indexFrom at ≡ at + 14
 unfolding kindOf kinds
 index-from at = omega arith
 
-register-has : length (kindOf shiftRegister .parameters) ≡ 2
-unfolding kindOf kinds indexed
-register-has = refl
+-- it is the first parameter
+pub index-first : (s : List ℕ) (at kind : ℕ) → kind ≡ shiftRegister → parameter (parametersAt s at (kindOf kind)) 0 ≡ signedAt s (indexFrom at)
+unfolding kindOf kinds indexed signedsAt
+index-first s at kind e = ap (λ (k : ℕ). parameter (parametersAt s at (kindOf k)) 0) e
 
 pub index-range : (s : List ℕ) (at kind : ℕ) → kind ≡ shiftRegister → allowed kind (parametersAt s at (kindOf kind)) ≡ true → Between (pos 1) (pos 4) (signedAt s (indexFrom at))
 unfolding kindOf kinds indexed signedsAt

@@ -1,3 +1,4 @@
+pub mod Tags
 pub mod Walk
 pub mod Rising
 pub mod Listed

@@ -15,7 +15,7 @@ use Rattle.blockfield.specs.BlockField.{blockFaults}
 use Rattle.fields.specs.Fields.{headerFaults, labelFaults, rowFaults, endFaults}
 use Rattle.decoding.specs.Decoded.{State, nothing, nextAt}
 use Rattle.circuit.specs.Circuit.{Verdict, refused, accepted, tagFaults, fieldFaults, fieldNumber, taken, closing, walk, verdictAt}
-use Rattle.circuit.proofs.Rising.{by-tag}
+use Rattle.circuit.proofs.Tags.{by-tag}
 use Rattle.circuit.proofs.Walk.{field-fits, walk-ended, walk-refused, walk-on}
 
 -- no number of a list is above another one

@@ -12,16 +12,16 @@ use Rattle.refusals.specs.Stages.{opening, ended}
 use Rattle.refusals.specs.Limited.{Modest}
 use Rattle.refusals.specs.Answers.{refusedAt, acceptedWith}
 use Rattle.refusals.specs.declared.Limits.{Limits}
-use Rattle.connectors.proofs.Laws.{or-false-right}
 use Rattle.fields.specs.Marks.{mark}
 use Rattle.fields.proofs.Laws.{mark-below}
 use Rattle.decoding.specs.Decoded.{headerIn, blockIn, labelIn, rowIn, endIn, State, indexUsed, destinationUsed, sizeAt, nextAt, headerTaken, blockTaken, labelTaken, rowTaken, endTaken, nothing, circuitOf, blockAt}
-use Rattle.circuit.specs.Circuit.{isCut, byTag, tagFaults, fieldFaults, fieldNumber, taken, closing, walk, refused, accepted, verdictAt, answerTo, answerAt}
+use Rattle.circuit.specs.Circuit.{tagFaults, fieldFaults, fieldNumber, taken, closing, walk, refused, accepted, verdictAt, answerTo, answerAt}
 use Rattle.decoding.specs.Held.{rowsAt, Seen, seenOf, Judged, Judges, Sound, Holds}
 use Rattle.circuit.specs.Judged.{Answers, Says}
 use Rattle.decoding.specs.declared.Head.{Head}
 use Rattle.circuit.specs.declared.Outcome.{Outcome}
-use Rattle.decoding.proofs.Right.{first-not}
+use Rattle.refusals.proofs.Tests.{or-false}
+use Rattle.circuit.proofs.Tags.{whole-iff, of-header, of-block, of-label, of-row, of-end, of-other}
 use Rattle.decoding.proofs.Steps.{headOf}
 
 -- ---- the field at a place
@@ -49,39 +49,14 @@ module _ (limits : Limits) (s : List ℕ) (at : ℕ) (st : State) where
   pub field-fits : fieldNumber limits s at st ≡ 0 → nextAt s at ≤ length s
   unfolding fieldNumber fieldFaults
   field-fits e =
-      let a = first-not 0 (isCut s at) (lowest (tagFaults limits s at st)) e in
-      ltb-false (length s) (nextAt s at) (or-false-right (ltb (length s) (at + 3)) (ltb (length s) (nextAt s at)) (a .0))
+      let cut = whole-iff limits s at st .0 e .0 in
+      ltb-false (length s) (nextAt s at) (or-false (ltb (length s) (at + 3)) (ltb (length s) (nextAt s at)) .0 cut .1)
 
   pub field-tag : nextAt s at ≤ length s → lowest (tagFaults limits s at st) ≡ fieldNumber limits s at st
   unfolding fieldNumber fieldFaults
   field-tag h =
       let l : at + 3 ≤ length s = omega arith in
       simp (le-ltb _ _ l, le-ltb _ _ h) refl
-
-module _ {A : Type 0} (h b l r e o : A) (tag : ℕ) where
-  tag-header : tag ≡ 0x01 → byTag tag h b l r e o ≡ h
-  unfolding byTag
-  tag-header q = ap (λ (t : ℕ). byTag t h b l r e o) q
-
-  tag-block : tag ≡ 0x10 → byTag tag h b l r e o ≡ b
-  unfolding byTag
-  tag-block q = ap (λ (t : ℕ). byTag t h b l r e o) q
-
-  tag-label : tag ≡ 0x20 → byTag tag h b l r e o ≡ l
-  unfolding byTag
-  tag-label q = ap (λ (t : ℕ). byTag t h b l r e o) q
-
-  tag-row : tag ≡ 0x30 → byTag tag h b l r e o ≡ r
-  unfolding byTag
-  tag-row q = ap (λ (t : ℕ). byTag t h b l r e o) q
-
-  tag-end : tag ≡ 0x7F → byTag tag h b l r e o ≡ e
-  unfolding byTag
-  tag-end q = ap (λ (t : ℕ). byTag t h b l r e o) q
-
-  tag-other : (tag ≡ 0x01 → ⊥) → (tag ≡ 0x10 → ⊥) → (tag ≡ 0x20 → ⊥) → (tag ≡ 0x30 → ⊥) → (tag ≡ 0x7F → ⊥) → byTag tag h b l r e o ≡ o
-  unfolding byTag
-  tag-other p q t u v = simp (ne-eqb _ _ p, ne-eqb _ _ q, ne-eqb _ _ t, ne-eqb _ _ u, ne-eqb _ _ v)
 
 module _ (limits : Limits) (s : List ℕ) (at size : ℕ) (q : size ≡ sizeAt s at) (fit : (at + 3) + size ≤ length s) (st : State) where
   whole : nextAt s at ≤ length s
@@ -100,31 +75,31 @@ module _ (limits : Limits) (s : List ℕ) (at size : ℕ) (q : size ≡ sizeAt s
   pub field-header : (r : Judged) → getD s at 0 ≡ 0x01 → Judges limits s (lowest (headerIn limits s at size st)) ((at + 3) + size) (headerTaken s at st) r → Judges limits s (fieldNumber limits s at st) (nextAt s at) (taken s at st) r
   unfolding tagFaults taken
   field-header r t j =
-      by-tag (λ z. headerIn limits s at z st) (headerTaken s at st) (tag-header _ _ _ _ _ _ _ t) (tag-header _ _ _ _ _ _ _ t) r j
+      by-tag (λ z. headerIn limits s at z st) (headerTaken s at st) (of-header _ _ _ _ _ _ _ t) (of-header _ _ _ _ _ _ _ t) r j
 
   pub field-block : (r : Judged) → getD s at 0 ≡ 0x10 → Judges limits s (lowest (blockIn limits s at size st)) ((at + 3) + size) (blockTaken s at st) r → Judges limits s (fieldNumber limits s at st) (nextAt s at) (taken s at st) r
   unfolding tagFaults taken
   field-block r t j =
-      by-tag (λ z. blockIn limits s at z st) (blockTaken s at st) (tag-block _ _ _ _ _ _ _ t) (tag-block _ _ _ _ _ _ _ t) r j
+      by-tag (λ z. blockIn limits s at z st) (blockTaken s at st) (of-block _ _ _ _ _ _ _ t) (of-block _ _ _ _ _ _ _ t) r j
 
   pub field-label : (r : Judged) → getD s at 0 ≡ 0x20 → Judges limits s (lowest (labelIn size st)) ((at + 3) + size) (labelTaken s at st) r → Judges limits s (fieldNumber limits s at st) (nextAt s at) (taken s at st) r
   unfolding tagFaults taken
   field-label r t j =
-      by-tag (λ z. labelIn z st) (labelTaken s at st) (tag-label _ _ _ _ _ _ _ t) (tag-label _ _ _ _ _ _ _ t) r j
+      by-tag (λ z. labelIn z st) (labelTaken s at st) (of-label _ _ _ _ _ _ _ t) (of-label _ _ _ _ _ _ _ t) r j
 
   pub field-row : (r : Judged) → getD s at 0 ≡ 0x30 → Judges limits s (lowest (rowIn limits s at size st)) ((at + 3) + size) (rowTaken s at st) r → Judges limits s (fieldNumber limits s at st) (nextAt s at) (taken s at st) r
   unfolding tagFaults taken
   field-row r t j =
-      by-tag (λ z. rowIn limits s at z st) (rowTaken s at st) (tag-row _ _ _ _ _ _ _ t) (tag-row _ _ _ _ _ _ _ t) r j
+      by-tag (λ z. rowIn limits s at z st) (rowTaken s at st) (of-row _ _ _ _ _ _ _ t) (of-row _ _ _ _ _ _ _ t) r j
 
   pub field-end : (r : Judged) → getD s at 0 ≡ 0x7F → Judges limits s (lowest (endIn size st)) ((at + 3) + size) (endTaken st) r → Judges limits s (fieldNumber limits s at st) (nextAt s at) (taken s at st) r
   unfolding tagFaults taken
   field-end r t j =
-      by-tag (λ z. endIn z st) (endTaken st) (tag-end _ _ _ _ _ _ _ t) (tag-end _ _ _ _ _ _ _ t) r j
+      by-tag (λ z. endIn z st) (endTaken st) (of-end _ _ _ _ _ _ _ t) (of-end _ _ _ _ _ _ _ t) r j
 
   pub field-other : (getD s at 0 ≡ 0x01 → ⊥) → (getD s at 0 ≡ 0x10 → ⊥) → (getD s at 0 ≡ 0x20 → ⊥) → (getD s at 0 ≡ 0x30 → ⊥) → (getD s at 0 ≡ 0x7F → ⊥) → 2 ≡ fieldNumber limits s at st
   unfolding tagFaults
-  field-other a b c d e = sym (ap lowest (tag-other _ _ _ _ _ (2 when true ∷ []) (getD s at 0) a b c d e)) ∙ field-tag limits s at st whole
+  field-other a b c d e = sym (ap lowest (of-other (getD s at 0) _ _ _ _ _ (2 when true ∷ []) a b c d e)) ∙ field-tag limits s at st whole
 
 -- ---- the walk
 

@@ -15,14 +15,6 @@ use Rattle.connectors.specs.Named.{lower}
 
 -- ---- tests
 
-pub or-false-left : (a b : Bool) → (a || b) ≡ false → a ≡ false
-or-false-left true b e = e
-or-false-left false b e = refl
-
-pub or-false-right : (a b : Bool) → (a || b) ≡ false → b ≡ false
-or-false-right true b e = absurd (true≢false e)
-or-false-right false b e = e
-
 one-test : (b : Bool) → eqb (cond b 1 0) 1 ≡ b
 one-test true = refl
 one-test false = refl

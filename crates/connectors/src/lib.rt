@@ -8,7 +8,7 @@ ghost use Rattle.connectors.specs.Connectors.{member, takes, inverts, le
 ghost use Rattle.connectors.specs.Named.{namedNumber, lower as lowerOf};
 use refusals::Limits;
 
-// Where a connector stands: a digital and an analog input, a row of a digital, an analog and an unknown destination.
+// Where a connector stands: in a digital input, in an analog one, in a row of unknown class. Rows of digital and analog ones are 2 and 3.
 pub const DIGITAL_INPUT: usize = 0;
 
 pub const ANALOG_INPUT: usize = 1;

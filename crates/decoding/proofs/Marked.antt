@@ -1,15 +1,21 @@
 -- The marks of destinations and of shift registers say which of them are used: each has a mark of its own. Assumes nothing.
+use mathlib.Core.Logic.{_↔_}
 use mathlib.Core.Path.{_≡_, refl, ap, ap₂, sym, _∙_, subst}
 use mathlib.Core.Bool.{Bool, true, false, _&&_, _||_, cond, false≢true}
 use mathlib.Core.List.{List, [], _∷_, _++_}
 use Prim.Native.Nat.{ℕ, zero, suc, _+_, _-_, _≤_, _<_}
 use native.Mathlib.Omega.{arith}
-use lib.Dec.{eqb, leb, ltb}
+use lib.Dec.{eqb, ltb}
 use lib.ListN.{length, getD, set}
 use lib.Seq.{getD-set-same, getD-set-other}
 use lib.IntN.{ℤ, pos}
-use borrow.Author.Tests.{lt-ltb, le-ltb, le-leb, eq-eqb, ne-eqb, eqb-true, eqb-false, leb-true}
+use lib.Signed.{leZ}
+use borrow.Author.Tests.{lt-ltb, le-ltb, eq-eqb, ne-eqb, eqb-true, eqb-false}
+use Rattle.words.specs.Signed.{over, under}
 use Rattle.words.proofs.Bounds.{and-true}
+use Rattle.words.proofs.Sides as sides
+use Rattle.words.proofs.Sides.{leZ-true, le-leZ}
+use Rattle.refusals.proofs.Tests.{and-iff, fails}
 use Rattle.refusals.specs.Limited.{Modest}
 use Rattle.refusals.specs.declared.Limits.{Limits}
 use Rattle.blockfield.specs.BlockField.{shiftRegister}
@@ -129,17 +135,15 @@ register-same registers blocks b ne held x l g =
     ∙ ap (λ (t : Bool). indexUsed (pos x) blocks || (t && same (indexOf b) (pos x))) (sym (ne-eqb (b .kind) shiftRegister ne))
     ∙ sym (index-snoc (pos x) blocks b)
 
-apart : (a c : ℕ) → (a ≡ c → ⊥) → (leb a c && leb c a) ≡ false
-apart a c ne = both (leb a c) (leb c a) refl refl
-  where
-    both : (v w : Bool) → leb a c ≡ v → leb c a ≡ w → (v && w) ≡ false
-    both false w p q = refl
-    both true false p q = refl
-    both true true p q =
-        let m = leb-true a c p in
-        let n = leb-true c a q in
-        let z : a ≡ c = omega arith in
-        absurd (ne z)
+-- two numbers, each at most the other
+pub same-iff : (x y : ℤ) → (same x y ≡ true) ↔ (x ≡ y)
+same-iff x y = (
+  λ e. let p = and-iff (leZ x y) (leZ y x) .0 e in sides.same x y (omega (arith, leZ-true x y (p .0), leZ-true y x (p .1))),
+  λ e.
+      let o = ap over e in
+      let u = ap under e in
+      and-iff (leZ x y) (leZ y x) .1 (le-leZ x y (omega arith), le-leZ y x (omega arith)),
+)
 
 -- a shift register of index y
 pub register-marked : (registers : List Bool) (blocks : List Block) (b : Block) (y : ℕ) → length registers ≡ 4 → b .kind ≡ shiftRegister → indexOf b ≡ pos y → 1 ≤ y → y ≤ 4 → Marks registers blocks → Marks (set registers (y - 1) true) (blocks ++ (b ∷ []))
@@ -154,16 +158,14 @@ register-marked registers blocks b y long k p ly gy held x l g =
         let q : y ≡ x = eqb-true y x e in
         let i : x - 1 ≡ y - 1 = omega arith in
         let r : y - 1 < length registers = omega arith in
-        let s : y ≤ x = omega arith in
-        let s′ : x ≤ y = omega arith in
         ap (λ (k : ℕ). getD (set registers (y - 1) true) k false) i
         ∙ getD-set-same registers (y - 1) true false r
         ∙ or-true (indexUsed (pos x) blocks)
-        ∙ ap (λ (v : Bool). indexUsed (pos x) blocks || v) (sym (ap₂ (λ (v w : Bool). v && w) (le-leb y x s) (le-leb x y s′)))
+        ∙ ap (λ (v : Bool). indexUsed (pos x) blocks || v) (sym (same-iff (pos y) (pos x) .1 (ap pos q)))
     go false e =
         let ne = eqb-false y x e in
         let i : (x - 1 ≡ y - 1 → ⊥) = λ q. let z : y ≡ x = omega arith in ne z in
         getD-set-other registers (y - 1) (x - 1) true false i
         ∙ held x l g
         ∙ or-none (indexUsed (pos x) blocks)
-        ∙ ap (λ (v : Bool). indexUsed (pos x) blocks || v) (sym (apart y x ne))
+        ∙ ap (λ (v : Bool). indexUsed (pos x) blocks || v) (sym (fails (same (pos y) (pos x)) .1 (λ t. ne (ap over (same-iff (pos y) (pos x) .0 t)))))

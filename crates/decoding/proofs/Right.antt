@@ -1,44 +1,84 @@
--- What a field without a fault says of itself. Assumes nothing.
+-- What a field without a fault says of itself: of header, label and end all of it, both ways. Assumes nothing.
+use mathlib.Core.Logic.{_↔_}
 use mathlib.Core.Path.{_≡_, refl}
-use mathlib.Core.Bool.{Bool, true, false, not, _&&_, _||_, cond}
+use mathlib.Core.Bool.{Bool, true, false, not, _&&_}
 use mathlib.Core.List.{List}
-use Prim.Native.Nat.{ℕ, suc, _+_, _≤_, _<_}
-use native.Mathlib.Omega.{arith}
-use lib.Dec.{eqb, leb, ltb}
+use Prim.Native.Nat.{ℕ, _+_, _≤_, _<_}
+use lib.Dec.{eqb, ltb}
 use lib.ListN.{getD}
-use borrow.Author.Tests.{ltb-false, leb-false, eqb-true, eqb-false, not-false}
+use borrow.Author.Tests.{ltb-false, le-ltb, leb-false, eqb-true, eqb-false, eq-eqb, ne-eqb}
 use Rattle.words.specs.Bytes.{numberAt}
 use Rattle.kinds.specs.Kinds.{kindOf, known, contentLength, allowed}
 use Rattle.refusals.specs.Faults.{lowest}
 use Rattle.refusals.specs.Stages.{opening, afterBlock, amongRows}
 use Rattle.refusals.specs.declared.Limits.{Limits}
-use Rattle.connectors.specs.Connectors.{connectorAt, wrong}
-use Rattle.connectors.proofs.Laws.{or-false-left, or-false-right}
-use Rattle.blockfield.specs.BlockField.{kindAt, optionAt, digitalsAt, analogsAt, parametersAt, wrongLength, mostOption, wrongKind, wrongInputs, laterInputs, blockFaults}
+use Rattle.refusals.proofs.Tests.{or-false, not-is, none-holds}
+use Rattle.blockfield.specs.BlockField.{kindAt, optionAt, parametersAt, wrongLength, mostOption, wrongKind, blockFaults}
 use Rattle.blockfield.proofs.Laws.{right-length}
-use Rattle.fields.specs.Fields.{headerFaults, labelFaults, rowFaults, endFaults, classAt, numberIn, unknown, placeOf}
+use Rattle.fields.specs.Fields.{headerFaults, labelFaults, rowFaults, endFaults, classAt, numberIn, unknown}
 
--- the first of a list does not hold, and nothing behind it
-pub first-not : (k : ℕ) (b : Bool) (t : ℕ) → cond b (suc k) t ≡ 0 → (b ≡ false) × (t ≡ 0)
-first-not k true t e = let z : ⊥ = omega arith in absurd z
-first-not k false t e = (refl, e)
+-- ---- header, label, end
 
 pub record HeaderRight (limits : Limits) (s : List ℕ) (at size stage : ℕ) : Type 0 where
-  pub is-opening : stage ≡ opening
-  pub size-is : size ≡ 3
+  pub first : stage ≡ opening
+  pub long : size ≡ 3
+  pub version : getD s (at + 3) 0 ≡ 1
   pub few : numberAt 2 s (at + 4) ≤ limits .blocks
 
-pub header-right : (limits : Limits) (s : List ℕ) (at size stage : ℕ) → lowest (headerFaults limits s at size stage) ≡ 0 → HeaderRight limits s at size stage
+pub header-iff : (limits : Limits) (s : List ℕ) (at size stage : ℕ)
+    → (lowest (headerFaults limits s at size stage) ≡ 0) ↔ HeaderRight limits s at size stage
 unfolding headerFaults
-header-right limits s at size stage e =
-    let a = first-not 1 (not (eqb stage opening) || not (eqb size 3)) _ e in
-    let b = first-not 2 (not (eqb (getD s (at + 3) 0) 1)) _ (a .1) in
-    let c = first-not 3 (ltb (limits .blocks) (numberAt 2 s (at + 4))) 0 (b .1) in
-    record {
-      is-opening = eqb-true stage opening (not-false (eqb stage opening) (or-false-left (not (eqb stage opening)) (not (eqb size 3)) (a .0)));
-      size-is = eqb-true size 3 (not-false (eqb size 3) (or-false-right (not (eqb stage opening)) (not (eqb size 3)) (a .0)));
-      few = ltb-false (limits .blocks) (numberAt 2 s (at + 4)) (c .0);
-    }
+header-iff limits s at size stage =
+    let faults = none-holds (headerFaults limits s at size stage) refl in (
+      λ e.
+          let none = faults .0 e in
+          let a = or-false _ _ .0 (none .0) in
+          record {
+            first = eqb-true _ _ (not-is _ .0 (a .0));
+            long = eqb-true _ _ (not-is _ .0 (a .1));
+            version = eqb-true _ _ (not-is _ .0 (none .1 .0));
+            few = ltb-false _ _ (none .1 .1 .0);
+          },
+      λ r.
+          faults .1 (
+            or-false _ _ .1 (not-is _ .1 (eq-eqb _ _ (r .first)), not-is _ .1 (eq-eqb _ _ (r .long))),
+            (not-is _ .1 (eq-eqb _ _ (r .version)), (le-ltb _ _ (r .few), tt)),
+          ),
+    )
+
+pub record LabelRight (size stage : ℕ) : Type 0 where
+  pub after : stage ≡ afterBlock
+  pub short : size ≤ 16
+
+pub label-iff : (size stage : ℕ) → (lowest (labelFaults size stage) ≡ 0) ↔ LabelRight size stage
+unfolding labelFaults
+label-iff size stage =
+    let faults = none-holds (labelFaults size stage) refl in (
+      λ e.
+          let a = or-false _ _ .0 (faults .0 e .0) in
+          record { after = eqb-true _ _ (not-is _ .0 (a .0)); short = ltb-false _ _ (a .1) },
+      λ r. faults .1 (or-false _ _ .1 (not-is _ .1 (eq-eqb _ _ (r .after)), le-ltb _ _ (r .short)), tt),
+    )
+
+pub record EndRight (size stage n count : ℕ) : Type 0 where
+  pub late : stage ≡ opening → ⊥
+  pub empty : size ≡ 0
+  pub full : n ≤ count
+
+pub end-iff : (size stage n count : ℕ) → (lowest (endFaults size stage n count) ≡ 0) ↔ EndRight size stage n count
+unfolding endFaults
+end-iff size stage n count =
+    let faults = none-holds (endFaults size stage n count) refl in (
+      λ e.
+          let none = faults .0 e in
+          let a = or-false _ _ .0 (none .0) in
+          record { late = eqb-false _ _ (a .0); empty = eqb-true _ _ (not-is _ .0 (a .1)); full = ltb-false _ _ (none .1 .0) },
+      λ r.
+          faults .1
+          (or-false _ _ .1 (ne-eqb _ _ (r .late), not-is _ .1 (eq-eqb _ _ (r .empty))), (le-ltb _ _ (r .full), tt)),
+    )
+
+-- ---- a block, a row
 
 pub record BlockRight (s : List ℕ) (at size stage n count : ℕ) : Type 0 where
   pub not-opening : stage ≡ opening → ⊥
@@ -52,30 +92,18 @@ pub block-right : (limits : Limits) (s : List ℕ) (at size stage n count : ℕ)
 unfolding blockFaults wrongLength wrongKind
 block-right limits s at size stage n count sorts used e =
     let kind = kindAt s at in
-    let a = first-not 1 (eqb stage opening || eqb stage amongRows) _ e in
-    let b = first-not 1 (wrongLength kind size) _ (a .1) in
-    let c = first-not 3 (leb n count) _ (b .1) in
-    let d = first-not 4 (wrongKind kind (optionAt s at)) _ (c .1) in
-    let digitals = digitalsAt s at (kindOf kind) in
-    let analogs = analogsAt s at (kindOf kind) in
-    let f = first-not 5 (wrongInputs limits (count + 1) n sorts digitals analogs) _ (d .1) in
-    let g = first-not 6 (laterInputs (count + 1) digitals analogs) _ (f .1) in
-    let h = first-not 7 (not (allowed kind (parametersAt s at (kindOf kind)))) _ (g .1) in
-    let k : known kind ≡ true = not-false (known kind) (or-false-left (not (known kind)) (ltb (mostOption (kindOf kind)) (optionAt s at)) (d .0)) in
+    let none = none-holds (blockFaults limits s at size stage n count sorts used) refl .0 e in
+    let stages = or-false (eqb stage opening) (eqb stage amongRows) .0 (none .0) in
+    let sized = or-false (eqb size 0) (known kind && not (eqb size (contentLength (kindOf kind)))) .0 (none .1 .0) in
+    let k = not-is (known kind) .0 (or-false (not (known kind)) (ltb (mostOption (kindOf kind)) (optionAt s at)) .0 (none .1 .1 .1 .0) .0) in
     record {
-      not-opening = eqb-false stage opening (or-false-left (eqb stage opening) (eqb stage amongRows) (a .0));
-      not-rows = eqb-false stage amongRows (or-false-right (eqb stage opening) (eqb stage amongRows) (a .0));
+      not-opening = eqb-false stage opening (stages .0);
+      not-rows = eqb-false stage amongRows (stages .1);
       is-known = k;
-      size-is = right-length kind size k (or-false-right (eqb size 0) (known kind && not (eqb size (contentLength (kindOf kind)))) (b .0));
-      room = leb-false n count (c .0);
-      is-allowed = not-false (allowed kind (parametersAt s at (kindOf kind))) (h .0);
+      size-is = right-length kind size k (sized .1);
+      room = leb-false n count (none .1 .1 .0);
+      is-allowed = not-is (allowed kind (parametersAt s at (kindOf kind))) .0 (none .1 .1 .1 .1 .1 .1 .0);
     }
-
-pub label-right : (size stage : ℕ) → lowest (labelFaults size stage) ≡ 0 → stage ≡ afterBlock
-unfolding labelFaults
-label-right size stage e =
-    let a = first-not 1 (not (eqb stage afterBlock) || ltb 16 size) 0 e in
-    eqb-true stage afterBlock (not-false (eqb stage afterBlock) (or-false-left (not (eqb stage afterBlock)) (ltb 16 size) (a .0)))
 
 pub record RowRight (limits : Limits) (s : List ℕ) (at size n count : ℕ) : Type 0 where
   pub size-is : size ≡ 5
@@ -85,26 +113,9 @@ pub record RowRight (limits : Limits) (s : List ℕ) (at size n count : ℕ) : T
 pub row-right : (limits : Limits) (s : List ℕ) (at size stage n count : ℕ) (sorts : List Bool) (used : Bool) → lowest (rowFaults limits s at size stage n count sorts used) ≡ 0 → RowRight limits s at size n count
 unfolding rowFaults
 row-right limits s at size stage n count sorts used e =
-    let a = first-not 1 (eqb stage opening || not (eqb size 5)) _ e in
-    let b = first-not 3 (ltb count n) _ (a .1) in
-    let c = first-not 5 (wrong limits (placeOf (classAt s at)) (count + 1) n sorts (connectorAt s (at + 5))) _ (b .1) in
-    let d = first-not 8 (unknown limits (classAt s at) (numberIn s at) || used) 0 (c .1) in
+    let none = none-holds (rowFaults limits s at size stage n count sorts used) refl .0 e in
     record {
-      size-is = eqb-true size 5 (not-false (eqb size 5) (or-false-right (eqb stage opening) (not (eqb size 5)) (a .0)));
-      complete = ltb-false count n (b .0);
-      is-known = or-false-left (unknown limits (classAt s at) (numberIn s at)) used (d .0);
-    }
-
-pub record EndRight (size n count : ℕ) : Type 0 where
-  pub size-is : size ≡ 0
-  pub complete : n ≤ count
-
-pub end-right : (size stage n count : ℕ) → lowest (endFaults size stage n count) ≡ 0 → EndRight size n count
-unfolding endFaults
-end-right size stage n count e =
-    let a = first-not 1 (eqb stage opening || not (eqb size 0)) _ e in
-    let b = first-not 3 (ltb count n) 0 (a .1) in
-    record {
-      size-is = eqb-true size 0 (not-false (eqb size 0) (or-false-right (eqb stage opening) (not (eqb size 0)) (a .0)));
-      complete = ltb-false count n (b .0);
+      size-is = eqb-true size 5 (not-is (eqb size 5) .0 (or-false (eqb stage opening) (not (eqb size 5)) .0 (none .0) .1));
+      complete = ltb-false count n (none .1 .0);
+      is-known = or-false (unknown limits (classAt s at) (numberIn s at)) used .0 (none .1 .1 .1 .0) .0;
     }

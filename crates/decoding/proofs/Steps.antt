@@ -13,14 +13,14 @@ use borrow.Author.Tests.{eqb-true, eqb-false}
 use Rattle.words.specs.Bytes.{numberAt}
 use Rattle.words.specs.Signed.{over, Between}
 use Rattle.words.proofs.Bounds.{amount-between}
-use Rattle.kinds.specs.Kinds.{kinds, kindOf, isAnalog, parameter, allowed, indexed}
+use Rattle.kinds.specs.Kinds.{kinds, kindOf, isAnalog, allowed, indexed}
 use Rattle.refusals.specs.Faults.{lowest}
 use Rattle.refusals.specs.Stages.{amongBlocks, afterBlock, amongRows, ended}
 use Rattle.refusals.specs.Limited.{Modest}
 use Rattle.refusals.specs.declared.Limits.{Limits}
 use Rattle.blockfield.specs.BlockField.{kindAt, parametersAt, signedAt, signedsAt, indexFrom, shiftRegister, blockFaults}
 use Rattle.blockfield.specs.Marked.{indexMark, Lies}
-use Rattle.blockfield.proofs.Laws.{index-range}
+use Rattle.blockfield.proofs.Laws.{index-first, index-range}
 use Rattle.fields.specs.Fields.{headerFaults, labelFaults, rowFaults, endFaults, classAt, numberIn}
 use Rattle.fields.specs.Marks.{mark}
 use Rattle.fields.proofs.Laws.{known-destination}
@@ -30,7 +30,7 @@ use Rattle.decoding.specs.declared.Head.{Head}
 use Rattle.decoding.specs.declared.Step.{Step}
 use Rattle.decoding.proofs.Agree.{block-agree, row-agree, used-agree}
 use Rattle.decoding.proofs.Marked.{Marks, row-marked, register-same, register-marked}
-use Rattle.decoding.proofs.Right.{header-right, block-right, label-right, row-right, end-right}
+use Rattle.decoding.proofs.Right.{header-iff, label-iff, end-iff, block-right, row-right}
 
 -- ---- lists
 
@@ -178,8 +178,8 @@ no-rows-there limits s seen st h z start = rw z (rw z at (h .rows-there))
 module _ (limits : Limits) (s : List ℕ) (at size : ℕ) (fit : (at + 3) + size ≤ length s) (seen : Seen) (sound : Sound (seen .head) at) (st : State) (h : Holds limits s seen st) where
   pub header-taken : Modest limits → (x : ℕ) → x ≡ numberAt 2 s (at + 4) → 0 ≡ headerHere limits s at size seen st h → Judges limits s (headerNumber limits s at size seen st h) ((at + 3) + size) (headerTaken s at st) (record { number = 0; next = (at + 3) + size; seen = record { head = headOf amongBlocks x (seen .head .blocks) (seen .head .rows) ((at + 3) + size); offsets = seen .offsets; sorts = seen .sorts; used = seen .used; registers = seen .registers } })
   header-taken modest x q e =
-      let right = header-right limits s at size (seen .head .stage) (sym e) in
-      let stage = right .is-opening in
+      let right = header-iff limits s at size (seen .head .stage) .0 (sym e) in
+      let stage = right .first in
       let none : seen .head .blocks ≡ 0 = sound .fresh stage in
       let no-rows : seen .head .rows ≡ 0 = sound .no-rows (λ y. omega (arith, stage)) (λ y. omega (arith, stage)) in
       record {
@@ -233,7 +233,7 @@ module _ (limits : Limits) (s : List ℕ) (at size : ℕ) (fit : (at + 3) + size
           let r = index-range s at (kindAt s at) k w in
           let a = amount-between r in
           let p : indexOf (blockAt s at) ≡ pos (over (signedAt s (indexFrom at))) =
-          ap (λ (z : ℕ). parameter (parametersAt s at (kindOf z)) 0) k ∙ index-count r in
+          index-first s at (kindAt s at) k ∙ index-count r in
           ap (λ (b : Bool). getD (cond b (set (seen .registers) (indexMark s at) true) (seen .registers)) (x - 1) false) e
           ∙ register-marked (seen .registers) (st .blocks) (blockAt s at) (over (signedAt s (indexFrom at))) (h .registers-long) k p (a .0) (a .1) (h .registers) x l g
       go false e =
@@ -341,7 +341,7 @@ module _ (limits : Limits) (s : List ℕ) (at size : ℕ) (fit : (at + 3) + size
 module _ (limits : Limits) (s : List ℕ) (at size : ℕ) (seen : Seen) (sound : Sound (seen .head) at) (st : State) (h : Holds limits s seen st) where
   pub label-taken : 0 ≡ labelHere limits s at size seen st h → Judges limits s (labelNumber limits s at size seen st h) ((at + 3) + size) (labelTaken s at st) (record { number = 0; next = (at + 3) + size; seen = record { head = headOf amongBlocks (seen .head .n) (seen .head .blocks) (seen .head .rows) ((at + 3) + size); offsets = seen .offsets; sorts = seen .sorts; used = seen .used; registers = seen .registers } })
   label-taken e =
-      let stage = label-right size (seen .head .stage) (sym e) in
+      let stage = label-iff size (seen .head .stage) .0 (sym e) .after in
       let x = contentAt s at in
       let no-rows : seen .head .rows ≡ 0 = sound .no-rows (λ y. omega (arith, stage)) (λ y. omega (arith, stage)) in
       record {
@@ -380,7 +380,7 @@ module _ (limits : Limits) (s : List ℕ) (at size : ℕ) (seen : Seen) (sound :
 
   pub end-taken : (seen .head .stage ≡ ended → ⊥) → 0 ≡ endHere limits s at size seen st h → Judges limits s (endNumber limits s at size seen st h) ((at + 3) + size) (endTaken st) (record { number = 0; next = (at + 3) + size; seen = record { head = headOf ended (seen .head .n) (seen .head .blocks) (seen .head .rows) (seen .head .start); offsets = seen .offsets; sorts = seen .sorts; used = seen .used; registers = seen .registers } })
   end-taken going e =
-      let right = end-right size (seen .head .stage) (seen .head .n) (seen .head .blocks) (sym e) in
+      let right = end-iff size (seen .head .stage) (seen .head .n) (seen .head .blocks) .0 (sym e) in
       let along = sound .along going in
       record {
         number-is = e ∙ end-same limits s at size seen st h;
@@ -409,9 +409,9 @@ module _ (limits : Limits) (s : List ℕ) (at size : ℕ) (seen : Seen) (sound :
               fresh = λ y. let x : ⊥ = omega arith in absurd x;
               few = sound .few;
               some-left = sound .some-left;
-              complete = λ y. right .complete;
+              complete = λ y. right .full;
               no-rows = λ y w. absurd (w refl);
               along = λ y. absurd (y refl);
-              closed = λ y. omega (arith, along, right .size-is);
+              closed = λ y. omega (arith, along, right .empty);
             };
       }

@@ -6,10 +6,11 @@ use native.Mathlib.Omega.{arith}
 use lib.Dec.{eqb, leb, ltb}
 use mathlib.Core.List.{List}
 use borrow.Author.Tests.{ltb-false, eqb-false, lt-leb}
+use Rattle.refusals.proofs.Tests.{or-false}
 use Rattle.refusals.specs.Limited.{Modest}
 use Rattle.refusals.specs.declared.Limits.{Limits}
 use Rattle.connectors.specs.Connectors.{Connector, classOf, isInverted, member, takes, inverts, least, greatest, names, misfits, wrongSort, wrong, later, connectorAt, sixOrSeven}
-use Rattle.connectors.proofs.Laws.{same-at, or-false-left, or-false-right, names-greatest, none-wrong, is-wrong}
+use Rattle.connectors.proofs.Laws.{same-at, names-greatest, none-wrong, is-wrong}
 use Rattle.fields.specs.Fields.{limitOf, placeOf, unknown, classAt}
 use Rattle.fields.specs.Marks.{base, mark}
 
@@ -31,10 +32,10 @@ pub record Known (limits : Limits) (class number : ℕ) : Type 0 where
 
 pub known-destination : (limits : Limits) (class number : ℕ) → unknown limits class number ≡ false → Known limits class number
 known-destination limits class number e =
-    let ne : (number ≡ 0 → ⊥) = eqb-false number 0 (or-false-left (eqb number 0) (ltb (limitOf limits class) number) e) in
+    let ne : (number ≡ 0 → ⊥) = eqb-false number 0 (or-false (eqb number 0) (ltb (limitOf limits class) number) .0 e .0) in
     record {
       low = omega (arith, ne);
-      high = ltb-false (limitOf limits class) number (or-false-right (eqb number 0) (ltb (limitOf limits class) number) e);
+      high = ltb-false (limitOf limits class) number (or-false (eqb number 0) (ltb (limitOf limits class) number) .0 e .1);
     }
 
 -- no class but 1 to 4 has one
@@ -93,10 +94,10 @@ none-later limits place own n sorts c h e = go (names (classOf c)) refl
     go false q = refl
     go true q =
         let k = classOf c in
-        let f = or-false-left (misfits limits place n c) (wrongSort place own sorts c) e in
-        let f′ = or-false-right (not (member k (takes place))) _ f in
-        let f″ = or-false-right (isInverted c && not (inverts k)) _ f′ in
-        let r : c .number ≤ greatest limits n k = ltb-false (greatest limits n k) (c .number) (or-false-right (ltb (c .number) (least k)) _ f″) in
+        let f = or-false (misfits limits place n c) (wrongSort place own sorts c) .0 e .0 in
+        let f′ = or-false (not (member k (takes place))) _ .0 f .1 in
+        let f″ = or-false (isInverted c && not (inverts k)) _ .0 f′ .1 in
+        let r : c .number ≤ greatest limits n k = ltb-false (greatest limits n k) (c .number) (or-false (ltb (c .number) (least k)) _ .0 f″ .1) in
         let r′ : c .number ≤ n = subst (λ (x : ℕ). c .number ≤ x) (names-greatest limits n k q) r in
         lt-leb own (c .number) (omega arith)
 

@@ -19,7 +19,7 @@ use Rattle.fields.specs.Fields.{headerFaults, labelFaults, rowFaults, endFaults
 use Rattle.decoding.specs.Decoded.{Circuit, indexUsed, destinationUsed, labelled}
 use Rattle.circuit.specs.Circuit.{accepted, byTag, tagFaults, fieldFaults, fieldNumber, taken, closing, walk, verdictAt}
 use Rattle.kept.specs.Keeps.{Bytes, Keeps, field, connectorBytes, signedBytes, blockContent, rowContent, encode}
-use Rattle.kept.proofs.Tests.{and-true}
+use Rattle.refusals.proofs.Tests.{and-iff}
 use Rattle.kept.proofs.Exactly.{accepted-exactly}
 
 to : ℕ → ℕ → Connector
@@ -63,8 +63,8 @@ allBytes (b ∷ l) = ltb b 256 && allBytes l
 are-bytes : (l : List ℕ) → allBytes l ≡ true → Bytes l
 unfolding allBytes
 are-bytes [] e i = omega arith
-are-bytes (b ∷ l) e zero = ltb-true _ _ (and-true _ _ .0 e .0)
-are-bytes (b ∷ l) e (suc i) = are-bytes l (and-true (ltb b 256) (allBytes l) .0 e .1) i
+are-bytes (b ∷ l) e zero = ltb-true _ _ (and-iff _ _ .0 e .0)
+are-bytes (b ∷ l) e (suc i) = are-bytes l (and-iff (ltb b 256) (allBytes l) .0 e .1) i
 
 -- some circuit keeps the rules
 kept : Keeps ours example

@@ -22,11 +22,12 @@ use Rattle.blockfield.specs.BlockField.{kindAt, optionAt, digitalsAt, analogsAt
 use Rattle.decoding.specs.Decoded.{Block, Row, State, Circuit, nothing, sizeAt, nextAt, contentAt, blockAt, rowAt, labelled, withLabel}
 use Rattle.circuit.specs.Circuit.{accepted, refused, walk, closing, verdictAt, fieldNumber, tagFaults, taken}
 use Rattle.kept.specs.Keeps.{All, EachAfter, Refers, BlockKeeps, Earlier, OwnIndex, RowKeeps, Once, Keeps, Label, Labelled, labelBytes, joined, field, connectorBytes, signedBytes, blockContent, blockBytes, rowContent, rowBytes, encode}
-use Rattle.kept.proofs.Tests.{or-false}
+use Rattle.refusals.proofs.Tests.{or-false}
 use Rattle.kept.proofs.Lists.{all-map, all-split, match-length, labelled-last}
 use Rattle.kept.proofs.Codec.{step, number-read, connector-read, connectors-read, signeds-read, field-read, connector-size, block-size}
-use Rattle.kept.proofs.Fields.{header-iff, label-iff, end-iff, row-free, block-free, connectors-add}
-use Rattle.kept.proofs.Tags.{whole-iff, of-header, of-block, of-label, of-row, of-end}
+use Rattle.decoding.proofs.Right.{header-iff, label-iff, end-iff}
+use Rattle.kept.proofs.Fields.{row-free, block-free, connectors-add}
+use Rattle.circuit.proofs.Tags.{whole-iff, of-header, of-block, of-label, of-row, of-end}
 
 -- ---- blocks and rows, read again
 

@@ -7,87 +7,25 @@ use Prim.Native.Nat.{ℕ, zero, suc, _+_, _*_, _≤_, _<_}
 use native.Mathlib.Nat.{add-zero, zero-add, suc-add}
 use native.Mathlib.Omega.{arith}
 use lib.Dec.{eqb, leb, ltb}
-use lib.ListN.{length, getD, length-append}
-use lib.IntN.{ℤ}
+use lib.ListN.{length, length-append}
 use mir.Syntax.{w32}
 use mir.Val.{SFits}
 use borrow.Author.Tests.{le-ltb, lt-leb, le-leb, lt-ltb, eq-eqb, ne-eqb, ltb-true, ltb-false, leb-true, leb-false, eqb-true, eqb-false}
-use Rattle.words.specs.Bytes.{numberAt}
-use Rattle.kinds.specs.Kinds.{kinds, kindOf, known, contentLength, parameter, indexed}
+use Rattle.kinds.specs.Kinds.{kinds, kindOf, known, contentLength}
 use Rattle.refusals.specs.Faults.{Fault, lowest}
-use Rattle.refusals.specs.Stages.{opening, afterBlock, amongRows}
+use Rattle.refusals.specs.Stages.{opening, amongRows}
 use Rattle.refusals.specs.declared.Limits.{Limits}
 use Rattle.connectors.specs.Connectors.{Connector, connectorAt, connectorsAt, classOf, unknownRow, digitalInput, analogInput, wrong, later, anyOf}
 use Rattle.connectors.proofs.Laws.{names-greatest}
-use Rattle.blockfield.specs.BlockField.{kindAt, digitalsAt, analogsAt, parametersAt, parametersFrom, signedAt, signedsAt, wrongLength, wrongKind, wrongInputs, laterInputs, shiftRegister, blockFaults}
-use Rattle.fields.specs.Fields.{headerFaults, labelFaults, rowFaults, endFaults, limitOf, placeOf, unknown, classAt, numberIn}
+use Rattle.blockfield.specs.BlockField.{indexFrom, kindAt, digitalsAt, analogsAt, parametersFrom, signedAt, signedsAt, wrongLength, wrongKind, wrongInputs, laterInputs, shiftRegister, blockFaults}
+use Rattle.fields.specs.Fields.{rowFaults, limitOf, placeOf, unknown, classAt, numberIn}
 use Rattle.decoding.specs.Decoded.{Block, Row, sortsOf, indexOf, indexUsed, destinationUsed, blockAt, rowAt}
 use Rattle.kept.specs.Keeps.{Bytes, All, Refers, Allowed, BlockKeeps, Earlier, OwnIndex, RowKeeps, Once}
-use Rattle.kept.proofs.Tests.{or-false, and-true, and-false, not-is, none-holds}
+use Rattle.refusals.proofs.Tests.{or-false, and-iff, and-false, not-is, none-holds}
 use Rattle.kept.proofs.Lists.{all-append, all-first, all-other, all-map, all-both}
 use Rattle.kept.proofs.Codec.{number-small, signed-fits}
-use Rattle.kept.proofs.Rules.{is-allowed, refers, not-wrong, not-later, none-of, right-parameters, are-allowed, known-class, apart, once}
-
--- ---- header, label, end
-
-pub record HeaderRight (limits : Limits) (s : List ℕ) (at size stage : ℕ) : Type 0 where
-  pub first : stage ≡ opening
-  pub long : size ≡ 3
-  pub version : getD s (at + 3) 0 ≡ 1
-  pub few : numberAt 2 s (at + 4) ≤ limits .blocks
-
-pub header-iff : (limits : Limits) (s : List ℕ) (at size stage : ℕ)
-    → (lowest (headerFaults limits s at size stage) ≡ 0) ↔ HeaderRight limits s at size stage
-unfolding headerFaults
-header-iff limits s at size stage =
-    let faults = none-holds (headerFaults limits s at size stage) refl in (
-      λ e.
-          let none = faults .0 e in
-          let a = or-false _ _ .0 (none .0) in
-          record {
-            first = eqb-true _ _ (not-is _ .0 (a .0));
-            long = eqb-true _ _ (not-is _ .0 (a .1));
-            version = eqb-true _ _ (not-is _ .0 (none .1 .0));
-            few = ltb-false _ _ (none .1 .1 .0);
-          },
-      λ r.
-          faults .1 (
-            or-false _ _ .1 (not-is _ .1 (eq-eqb _ _ (r .first)), not-is _ .1 (eq-eqb _ _ (r .long))),
-            (not-is _ .1 (eq-eqb _ _ (r .version)), (le-ltb _ _ (r .few), tt)),
-          ),
-    )
-
-pub record LabelRight (size stage : ℕ) : Type 0 where
-  pub after : stage ≡ afterBlock
-  pub short : size ≤ 16
-
-pub label-iff : (size stage : ℕ) → (lowest (labelFaults size stage) ≡ 0) ↔ LabelRight size stage
-unfolding labelFaults
-label-iff size stage =
-    let faults = none-holds (labelFaults size stage) refl in (
-      λ e.
-          let a = or-false _ _ .0 (faults .0 e .0) in
-          record { after = eqb-true _ _ (not-is _ .0 (a .0)); short = ltb-false _ _ (a .1) },
-      λ r. faults .1 (or-false _ _ .1 (not-is _ .1 (eq-eqb _ _ (r .after)), le-ltb _ _ (r .short)), tt),
-    )
-
-pub record EndRight (size stage n count : ℕ) : Type 0 where
-  pub late : stage ≡ opening → ⊥
-  pub empty : size ≡ 0
-  pub full : n ≤ count
-
-pub end-iff : (size stage n count : ℕ) → (lowest (endFaults size stage n count) ≡ 0) ↔ EndRight size stage n count
-unfolding endFaults
-end-iff size stage n count =
-    let faults = none-holds (endFaults size stage n count) refl in (
-      λ e.
-          let none = faults .0 e in
-          let a = or-false _ _ .0 (none .0) in
-          record { late = eqb-false _ _ (a .0); empty = eqb-true _ _ (not-is _ .0 (a .1)); full = ltb-false _ _ (none .1 .0) },
-      λ r.
-          faults .1
-          (or-false _ _ .1 (ne-eqb _ _ (r .late), not-is _ .1 (eq-eqb _ _ (r .empty))), (le-ltb _ _ (r .full), tt)),
-    )
+use Rattle.blockfield.proofs.Laws.{index-first}
+use Rattle.kept.proofs.Rules.{is-allowed, refers, not-wrong, not-later, none-of, right-parameters, are-allowed, known-place, apart, once}
 
 -- ---- a row
 
@@ -125,7 +63,7 @@ module _ (limits : Limits) (s : List ℕ) (at size stage n : ℕ) (blocks : List
         full = full;
         keeps = record { low = l; high = h; fits = small (at + 4); from = from };
         source =
-            refers limits place n blocks source-at (known-class limits (classAt s at) (numberIn s at) l h .1) (none .1 .1 .0)
+            refers limits place n blocks source-at (known-place limits (classAt s at) (numberIn s at) (record { low = l; high = h })) (none .1 .1 .0)
             (λ q. let top = names-greatest limits n (classOf source-at) q in let high = from .high in omega arith);
         once = once (rowAt s at) rows .0 (d .1);
       }
@@ -180,20 +118,16 @@ module _ (s : List ℕ) where
     signeds-fit i zero = tt
     signeds-fit i (suc k) = (signed-fits s small i, signeds-fit (i + 4) k)
 
-known-iff : (kind : ℕ) → (known kind ≡ true) ↔ ((1 ≤ kind) × (kind < length kinds))
+pub known-iff : (kind : ℕ) → (known kind ≡ true) ↔ ((1 ≤ kind) × (kind < length kinds))
 unfolding known
 known-iff kind = (
-  λ e. let p = and-true (leb 1 kind) (ltb kind (length kinds)) .0 e in (leb-true _ _ (p .0), ltb-true _ _ (p .1)),
-  λ p. and-true _ _ .1 (le-leb _ _ (p .0), lt-ltb _ _ (p .1)),
+  λ e. let p = and-iff (leb 1 kind) (ltb kind (length kinds)) .0 e in (leb-true _ _ (p .0), ltb-true _ _ (p .1)),
+  λ p. and-iff _ _ .1 (le-leb _ _ (p .0), lt-ltb _ _ (p .1)),
 )
 
 -- the index of a shift register
-abbrev indexAt : List ℕ → ℕ → ℤ
-indexAt s at = signedAt s (parametersFrom at (kindOf shiftRegister))
-
-index-is : (s : List ℕ) (at : ℕ) → kindAt s at ≡ shiftRegister → indexOf (blockAt s at) ≡ indexAt s at
-unfolding signedsAt kindOf kinds indexed
-index-is s at e = ap (λ (k : ℕ). parameter (parametersAt s at (kindOf k)) 0) e
+index-is : (s : List ℕ) (at : ℕ) → kindAt s at ≡ shiftRegister → indexOf (blockAt s at) ≡ signedAt s (indexFrom at)
+index-is s at e = index-first s at (kindAt s at) e
 
 -- the inputs of one sort
 module _ (limits : Limits) (place n : ℕ) (before : List Block) (known-place : eqb place unknownRow ≡ false) (l : List Connector) where
@@ -234,7 +168,7 @@ module _ (limits : Limits) (s : List ℕ) (at size stage n : ℕ) (before : List
   analogs = analogsAt s at (kindOf kind)
 
   abbrev pub block-faults : List Fault
-  block-faults = blockFaults limits s at size stage n (length before) (sortsOf before) (indexUsed (indexAt s at) before)
+  block-faults = blockFaults limits s at size stage n (length before) (sortsOf before) (indexUsed (signedAt s (indexFrom at)) before)
 
   pub block-right : Bytes s → lowest block-faults ≡ 0 → BlockRight limits s at size stage n before
   unfolding blockFaults wrongLength wrongKind wrongInputs laterInputs

@@ -1,10 +1,8 @@
-pub mod Tests
 pub mod Lists
 pub mod Codec
 pub mod Rules
 pub mod Fields
 pub mod Written
-pub mod Tags
 pub mod Sound
 pub mod Complete
 pub mod Exactly

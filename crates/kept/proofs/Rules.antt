@@ -8,13 +8,10 @@ use native.Mathlib.Omega.{arith}
 use lib.Dec.{eqb, ltb}
 use lib.ListN.{length, getD}
 use lib.IntN.{ℤ, pos}
-use lib.Signed.{leZ}
 use mir.Syntax.{w32}
 use mir.Val.{SFits}
 use borrow.Author.Tests.{lt-ltb, le-ltb, lt-leb, le-leb, eq-eqb, ne-eqb, ltb-false, leb-true, leb-false, eqb-true, eqb-false}
-use Rattle.words.specs.Signed.{over, under}
-use Rattle.words.proofs.Sides as sides
-use Rattle.words.proofs.Sides.{leZ-true, le-leZ}
+use Rattle.words.specs.Signed.{over}
 use Rattle.kinds.specs.Time.{longest}
 use Rattle.kinds.specs.Kinds.{Range, In, _to_, kindOf, parameter, settingsFit, settingFits, rangesFit, allowed}
 use Rattle.kinds.proofs.Rows.{small-kind}
@@ -23,9 +20,11 @@ use Rattle.refusals.specs.declared.Limits.{Limits}
 use Rattle.connectors.specs.Connectors.{Connector, classOf, isInverted, member, takes, inverts, least, names, unknownRow, misfits, wrongSort, wrong, later, anyOf}
 use Rattle.blockfield.specs.BlockField.{shiftRegister}
 use Rattle.fields.specs.Fields.{limitOf, placeOf}
+use Rattle.fields.proofs.Laws.{Known}
 use Rattle.decoding.specs.Decoded.{Block, Row, sortsOf, indexOf, same, indexUsed, destinationUsed}
+use Rattle.decoding.proofs.Marked.{same-iff}
 use Rattle.kept.specs.Keeps.{All, Match, Allowed, Refers, Parameters, Apart, Other}
-use Rattle.kept.proofs.Tests.{or-false, and-true, and-false, not-is, fails, same-bit}
+use Rattle.refusals.proofs.Tests.{or-false, and-iff, and-false, not-is, fails, same-bit}
 
 -- ---- a connector
 
@@ -59,7 +58,7 @@ module _ (limits : Limits) (place n : ℕ) (before : List Block) (c : Connector)
               λ h.
               let l = there h in
               let less : c .number < length before + 1 = omega arith in
-              let named : (names (classOf c) && ltb (c .number) (length before + 1)) ≡ true = and-true _ _ .1 (h, lt-ltb _ _ less) in
+              let named : (names (classOf c) && ltb (c .number) (length before + 1)) ≡ true = and-iff _ _ .1 (h, lt-ltb _ _ less) in
               let known : not (eqb place unknownRow) ≡ true = ap not known-place in
               let sort = or-false (misfits limits place n c) _ .0 e .1 in
               same-bit _ _ .0 (not-is _ .0 (and-false _ _ .0 (and-false _ _ .0 sort named) known));
@@ -78,7 +77,7 @@ module _ (limits : Limits) (place n : ℕ) (before : List Block) (c : Connector)
           ),
         ),
         and-false (names k && ltb (c .number) (length before + 1)) _ .1
-            (λ h. and-false (not (eqb place unknownRow)) _ .1 (λ p. not-is _ .1 (same-bit _ _ .1 (r .right-sort (and-true _ _ .0 h .0))))),
+            (λ h. and-false (not (eqb place unknownRow)) _ .1 (λ p. not-is _ .1 (same-bit _ _ .1 (r .right-sort (and-iff _ _ .0 h .0))))),
       )
 
 -- no own or later block is named
@@ -123,10 +122,10 @@ settings-iff : (vs : List ℤ) (n : ℕ) → (settingsFit n vs ≡ true) ↔ ((j
 settings-iff vs zero = (λ e j l h. let z : ⊥ = omega arith in absurd z, λ f. refl)
 settings-iff vs (suc n) = (
   λ e j l h.
-      let p = and-true (settingFits (parameter vs 0) (parameter vs (suc n))) (settingsFit n vs) .0 e in
+      let p = and-iff (settingFits (parameter vs 0) (parameter vs (suc n))) (settingsFit n vs) .0 e in
       last j (p .0) (λ m. settings-iff vs n .0 (p .1) j l m) h (eqb j (suc n)) refl,
   λ f.
-      and-true (settingFits (parameter vs 0) (parameter vs (suc n))) (settingsFit n vs) .1
+      and-iff (settingFits (parameter vs 0) (parameter vs (suc n))) (settingsFit n vs) .1
       (f (suc n) (omega arith) (omega arith) .between, settings-iff vs n .1 (λ j l h. f j l (omega arith))),
 )
   where
@@ -144,39 +143,29 @@ module _ (kind : ℕ) (vs : List ℤ) where
       record {
         fit = fit;
         ranges = in-each (kindOf kind .parameters) vs q (λ j less. param-in kind vs e j (omega arith));
-        settings = settings-iff vs (kindOf kind .times) .0 (and-true (rangesFit (kindOf kind) vs) _ .0 e .1);
+        settings = settings-iff vs (kindOf kind .times) .0 (and-iff (rangesFit (kindOf kind) vs) _ .0 e .1);
       }
 
   pub are-allowed : Parameters (kindOf kind) vs → allowed kind vs ≡ true
   unfolding allowed
   are-allowed k =
       let at = each-in (kindOf kind .parameters) vs (k .ranges) in
-      and-true (rangesFit (kindOf kind) vs) (settingsFit (kindOf kind .times) vs) .1 (
-        and-true _ _ .1 (at 0 .between, and-true _ _ .1 (at 1 .between, and-true _ _ .1 (at 2 .between, at 3 .between))),
+      and-iff (rangesFit (kindOf kind) vs) (settingsFit (kindOf kind .times) vs) .1 (
+        and-iff _ _ .1 (at 0 .between, and-iff _ _ .1 (at 1 .between, and-iff _ _ .1 (at 2 .between, at 3 .between))),
         settings-iff vs (kindOf kind .times) .1 (k .settings),
       )
 
 -- ---- destinations and shift registers
 
--- a class that has numbers is one of the four
-pub known-class : (limits : Limits) (class number : ℕ) → 1 ≤ number → number ≤ limitOf limits class
-    → (class < 5) × (eqb (placeOf class) unknownRow ≡ false)
+-- a known destination has a known class
+pub known-place : (limits : Limits) (class number : ℕ) → Known limits class number → eqb (placeOf class) unknownRow ≡ false
 unfolding limitOf placeOf
-known-class limits zero number l h = let z : ⊥ = omega arith in absurd z
-known-class limits (suc zero) number l h = (omega arith, refl)
-known-class limits (suc (suc zero)) number l h = (omega arith, refl)
-known-class limits (suc (suc (suc zero))) number l h = (omega arith, refl)
-known-class limits (suc (suc (suc (suc zero)))) number l h = (omega arith, refl)
-known-class limits (suc (suc (suc (suc (suc k))))) number l h = let z : ⊥ = omega arith in absurd z
-
-same-iff : (x y : ℤ) → (same x y ≡ true) ↔ (x ≡ y)
-same-iff x y = (
-  λ e. let p = and-true (leZ x y) (leZ y x) .0 e in sides.same x y (omega (arith, leZ-true x y (p .0), leZ-true y x (p .1))),
-  λ e.
-      let o = ap over e in
-      let u = ap under e in
-      and-true (leZ x y) (leZ y x) .1 (le-leZ x y (omega arith), le-leZ y x (omega arith)),
-)
+known-place limits zero number d = let l = d .low in let h = d .high in let z : ⊥ = omega arith in absurd z
+known-place limits (suc zero) number d = refl
+known-place limits (suc (suc zero)) number d = refl
+known-place limits (suc (suc (suc zero))) number d = refl
+known-place limits (suc (suc (suc (suc zero)))) number d = refl
+known-place limits (suc (suc (suc (suc (suc k))))) number d = let l = d .low in let h = d .high in let z : ⊥ = omega arith in absurd z
 
 pub apart : (x : ℤ) (l : List Block) → (indexUsed x l ≡ false) ↔ All (Apart x) l
 unfolding indexUsed

@@ -21,11 +21,12 @@ use Rattle.decoding.specs.Decoded.{Block, Row, State, Circuit, circuitOf, nothi
 use Rattle.decoding.proofs.Steps.{labelled-length}
 use Rattle.circuit.specs.Circuit.{accepted, refused, walk, closing, verdictAt, fieldNumber, tagFaults, taken}
 use Rattle.kept.specs.Keeps.{Bytes, All, Each, Refers, BlockKeeps, Earlier, OwnIndex, RowKeeps, Once, Keeps, joined, field, connectorBytes, blockContent, blockBytes, rowContent, rowBytes, encode}
-use Rattle.kept.proofs.Tests.{or-false}
+use Rattle.refusals.proofs.Tests.{or-false}
 use Rattle.kept.proofs.Lists.{each-snoc, all-snoc, joined-snoc, all-part, LastBare, each-labelled, all-labelled, joined-labelled}
 use Rattle.kept.proofs.Codec.{part, part-cons, part-add, part-length, number-small, number-part, connector-part, connectors-part, signeds-part, field-part}
-use Rattle.kept.proofs.Fields.{header-iff, label-iff, end-iff, row-faults, row-right, block-faults, block-right, connectors-add}
-use Rattle.kept.proofs.Tags.{whole-iff, each-tag}
+use Rattle.decoding.proofs.Right.{header-iff, label-iff, end-iff}
+use Rattle.kept.proofs.Fields.{row-faults, row-right, block-faults, block-right, connectors-add}
+use Rattle.circuit.proofs.Tags.{whole-iff, each-tag}
 
 -- ---- the contents of fields, written again
 

@@ -16,7 +16,7 @@ use Rattle.decoding.specs.Decoded.{Block, Row, Circuit}
 use Rattle.kept.specs.Keeps.{Bytes, All, Allowed, Labelled, BlockKeeps, RowKeeps, Keeps, labelBytes, joined, field, connectorBytes, signedBytes, blockContent, blockBytes, rowContent, rowBytes, encode}
 use Rattle.kept.proofs.Lists.{all-append, all-map, all-split}
 use Rattle.kept.proofs.Codec.{bytes-small}
-use Rattle.kept.proofs.Rules.{known-class}
+use Rattle.fields.proofs.Laws.{class-below}
 
 abbrev Small : List ℕ → Type 0
 Small l = All (λ b. b < 256) l
@@ -86,7 +86,7 @@ module _ (limits : Limits) (n : ℕ) where
   row-small : (r : Row) → RowKeeps limits n r → Small (rowBytes r)
   unfolding rowContent
   row-small r k =
-      let known = known-class limits (r .class) (r .number) (k .low) (k .high) .0 in
+      let known = class-below limits (r .class) (r .number) (record { low = k .low; high = k .high }) in
       field-small 0x30 (rowContent r) (omega arith) (omega arith, (k .fits, connector-small _ (r .from) (k .from)))
 
 pub in-bytes : (limits : Limits) (c : Circuit) → Keeps limits c → Bytes (encode c)

@@ -1,6 +1,6 @@
 -- The inputs of a block one after the other; what is read of a block is its line. Assumes nothing.
-use mathlib.Core.Path.{_≡_, refl, ap, _∙_}
-use mathlib.Core.List.{List, _∷_, _++_}
+use mathlib.Core.Path.{sym, _≡_, refl, ap, _∙_}
+use mathlib.Core.List.{List}
 use Prim.Native.Nat.{ℕ, zero, suc, _+_, _*_, _≤_, _<_}
 use native.Mathlib.Nat.{le-of-suc-le-suc}
 use native.Mathlib.Omega.{arith}
@@ -13,22 +13,12 @@ use Rattle.blockfield.specs.Marked.{fourOf}
 use Rattle.decoding.specs.Decoded.{blockAt}
 use Rattle.blocks.specs.Blocks.{prepared}
 use Rattle.blocks.specs.declared.Prepared.{Prepared}
+use Rattle.kept.proofs.Fields.{connectors-add}
 use Rattle.lines.specs.Lines.{unused, nth, classesOf, numbersOf, lineOf}
 
 -- ---- connectors one after the other
 
 module _ (s : List ℕ) where
-  pub connectors-join : (d a from : ℕ) → connectorsAt s from d ++ connectorsAt s (from + 3 * d) a ≡ connectorsAt s from (d + a)
-  unfolding connectorsAt
-  connectors-join zero a from =
-      let e : from + 3 * 0 ≡ from = omega arith in
-      let z : 0 + a ≡ a = omega arith in
-      rw (e, z)
-  connectors-join (suc d) a from =
-      let e : from + 3 * suc d ≡ from + 3 + 3 * d = omega arith in
-      let z : suc d + a ≡ suc (d + a) = omega arith in
-      rw (e, z) (ap (λ l. connectorAt s from ∷ l) (connectors-join d a (from + 3)))
-
   pub connector-in : (count from j : ℕ) → j < count → nth (connectorsAt s from count) j ≡ connectorAt s (from + 3 * j)
   unfolding connectorsAt
   connector-in zero from j h = let z : ⊥ = omega arith in absurd z
@@ -49,4 +39,4 @@ unfolding lineOf
 line-read s at kind option count classes numbers params p k o n c m q r =
     let d = kindOf (kindAt s at) .digitals in
     let a = kindOf (kindAt s at) .analogs in
-    rw (c, m, r, q, n, k, o, connectors-join s d a (at + 5))
+    rw (c, m, r, q, n, k, o, sym (connectors-add s (at + 5) d a))

@@ -6,8 +6,7 @@ use native.Mathlib.Nat.{le-of-suc-le-suc}
 use native.Mathlib.Omega.{arith}
 use lib.ListN.{length, getD, take, drop, length-take, length-drop, List·getD-map, List·getD-eq-default}
 use lib.Seq.{getD-take, getD-drop}
-use borrow.Author.Tests.{le-leb, lt-ltb}
-use Rattle.kinds.specs.Kinds.{kinds, kindOf, known}
+use Rattle.kinds.specs.Kinds.{kindOf}
 use Rattle.refusals.specs.declared.Limits.{Limits}
 use Rattle.connectors.specs.Connectors.{digitalInput, analogInput}
 use Rattle.blockfield.specs.Marked.{fourOf}
@@ -19,6 +18,7 @@ use Rattle.circuit.specs.Circuit.{verdictAt, accepted}
 use Rattle.circuit.specs.Judged.{Accepts}
 use Rattle.blocks.proofs.Prepares.{prepared-fit, prepared-most}
 use Rattle.kept.specs.Keeps.{All, EachAfter, Each, Bytes, BlockKeeps, Earlier, Allowed, Refers}
+use Rattle.kept.proofs.Fields.{known-iff}
 use Rattle.kept.proofs.Rules.{are-allowed}
 use Rattle.kept.proofs.Exactly.{accepted-exactly}
 use Rattle.lines.specs.Lines.{unused, lineOf, Ready}
@@ -61,12 +61,12 @@ line-is limits s head offsets a k h =
 -- ---- each block of a kept circuit is ready
 
 block-ready : (limits : Limits) (n : ℕ) (before : List Block) (b : Block) → BlockKeeps limits n b → Earlier before b → Ready limits n before b
-unfolding lineOf known
+unfolding lineOf
 block-ready limits n before b k e =
     let d = kindOf (b .kind) .digitals in
     let ok = allowed-four (b .kind) (b .parameters) ∙ are-allowed (b .kind) (b .parameters) (k .parameters) in
     record {
-      is-known = rw (le-leb 1 (b .kind) (k .kind-low), lt-ltb (b .kind) (length kinds) (k .kind-high));
+      is-known = known-iff (b .kind) .1 (k .kind-low, k .kind-high);
       fit = prepared-fit (b .kind) (fourOf (b .parameters)) ok;
       most = prepared-most (b .kind) (fourOf (b .parameters)) ok;
       digital =

@@ -2,7 +2,7 @@
 use mathlib.Core.Path.{sym, _∙_}
 use native.Mathlib.Omega.{arith}
 use Rattle.decoding.specs.Held.{seenOf}
-use Rattle.decoding.proofs.Right.{header-right}
+use Rattle.decoding.proofs.Right.{header-iff}
 use Rattle.decoding.proofs.Steps.{header-same, header-taken, faulty-judges}
 use borrow.Author.Needs.{needs}
 use Rattle.decoding.proofs.header.Statement.{statement}
@@ -28,8 +28,8 @@ add-two-at c = search needs
 two-at-requires : tie.Need-two-at-requires
 two-at-requires c κs =
     let a = c .before .before .before .args in
-    let right = header-right (a .limits) (a .bytes .now) (a .at) (a .size) (a .head .stage) (sym (c .before .header-number .ensures) ∙ c .if1 .left) in
-    omega (arith, right .size-is, c .before .before .before .pre .0)
+    let right = header-iff (a .limits) (a .bytes .now) (a .at) (a .size) (a .head .stage) .0 (sym (c .before .header-number .ensures) ∙ c .if1 .left) in
+    omega (arith, right .long, c .before .before .before .pre .0)
 
 add-next : tie.Need-add-next
 add-next c = search needs

@@ -7,15 +7,15 @@ use Prim.Native.Nat.{ℕ, _≤_}
 use native.Mathlib.Omega.{arith}
 use lib.Dec.{leb}
 use borrow.Author.Tests.{leb-true}
+use Rattle.words.proofs.Bounds.{and-true}
 use Rattle.refusals.specs.Faults.{Fault, lowest, risesFrom, rises}
 
 pub or-false : (a b : Bool) → ((a || b) ≡ false) ↔ ((a ≡ false) × (b ≡ false))
 or-false true b = (λ e. absurd (true≢false e), λ e. e .0)
 or-false false b = (λ e. (refl, e), λ e. e .1)
 
-pub and-true : (a b : Bool) → ((a && b) ≡ true) ↔ ((a ≡ true) × (b ≡ true))
-and-true true b = (λ e. (refl, e), λ e. e .1)
-and-true false b = (λ e. absurd (false≢true e), λ e. e .0)
+pub and-iff : (a b : Bool) → ((a && b) ≡ true) ↔ ((a ≡ true) × (b ≡ true))
+and-iff a b = (and-true a b, λ e. rw (e .0, e .1))
 
 -- b only where a
 pub and-false : (a b : Bool) → ((a && b) ≡ false) ↔ (a ≡ true → b ≡ false)
@@ -46,7 +46,7 @@ None (f ∷ l) = (f .holds ≡ false) × None l
 none-from : (k : ℕ) → 1 ≤ k → (l : List Fault) → risesFrom k l ≡ true → (lowest l ≡ 0) ↔ None l
 none-from k h [] r = (λ e. tt, λ n. refl)
 none-from k h (f ∷ l) r =
-    let p = and-true (leb k (f .number)) (risesFrom (f .number) l) .0 r in
+    let p = and-true (leb k (f .number)) (risesFrom (f .number) l) r in
     let up = leb-true k (f .number) (p .0) in
     let above : 1 ≤ f .number = omega arith in
     by (f .holds) above (none-from (f .number) above l (p .1))

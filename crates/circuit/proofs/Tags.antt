@@ -6,11 +6,11 @@ use mathlib.Core.List.{List}
 use Prim.Native.Nat.{ℕ}
 use native.Mathlib.Omega.{arith}
 use lib.Dec.{eqb}
-use borrow.Author.Tests.{eqb-true}
+use borrow.Author.Tests.{eqb-true, ne-eqb}
 use Rattle.refusals.specs.Faults.{lowest}
 use Rattle.refusals.specs.declared.Limits.{Limits}
 use Rattle.decoding.specs.Decoded.{State}
 use Rattle.circuit.specs.Circuit.{byTag, tagFaults, isCut, fieldFaults, fieldNumber}
 
 -- a field lies within the bytes, and its tag's faults do not hold
 pub whole-iff : (limits : Limits) (s : List ℕ) (at : ℕ) (st : State)
@@ -46,6 +46,10 @@ module _ {A : Type 0} (tag : ℕ) (header block label row end other : A) where
   unfolding byTag
   of-end q = ap chosen q
 
+  pub of-other : (tag ≡ 0x01 → ⊥) → (tag ≡ 0x10 → ⊥) → (tag ≡ 0x20 → ⊥) → (tag ≡ 0x30 → ⊥) → (tag ≡ 0x7F → ⊥) → chosen tag ≡ other
+  unfolding byTag
+  of-other p q t u v = simp (ne-eqb _ _ p, ne-eqb _ _ q, ne-eqb _ _ t, ne-eqb _ _ u, ne-eqb _ _ v)
+
 -- what holds of two choices at each tag holds of what is chosen
 pub each-tag : {A B : Type 0} (R : A → B → Type 0) (tag : ℕ) (h b l r e o : A) (h′ b′ l′ r′ e′ o′ : B)
     → (tag ≡ 0x01 → R h h′) → (tag ≡ 0x10 → R b b′) → (tag ≡ 0x20 → R l l′) → (tag ≡ 0x30 → R r r′) → (tag ≡ 0x7F → R e e′) → R o o′
@@ -62,3 +66,8 @@ each-tag R tag h b l r e o h′ b′ l′ r′ e′ o′ H B L W E O =
     go false false false true y p q i j k = W (eqb-true _ _ j)
     go false false false false true p q i j k = E (eqb-true _ _ k)
     go false false false false false p q i j k = O
+
+-- what holds of all six holds of the one chosen
+pub by-tag : {A : Type 0} (P : A → Type 0) (tag : ℕ) (h b l r e o : A) → P h → P b → P l → P r → P e → P o → P (byTag tag h b l r e o)
+by-tag P tag h b l r e o ph pb pl pr pe po =
+    each-tag (λ x y. P x) tag h b l r e o h b l r e o (λ q. ph) (λ q. pb) (λ q. pl) (λ q. pr) (λ q. pe) po
