@@ -1,0 +1,1 @@
+// What each output and each flag gets from the rows.

@@ -1,0 +1,168 @@
+// Where each word of a run record stands, and when a record is sound. No other crate writes a word's place as a number.
+ghost use mathlib.Core.Path.{_≡_};
+ghost use Prim.Native.Nat.{_+_, _≤_, _<_, _^_};
+ghost use lib.ListN.{length, set};
+ghost use lib.IntN.{pos};
+ghost use Rattle.words.specs.Signed.{over, bitOf};
+ghost use Rattle.blocks.specs.Blocks.{ticks};
+ghost use Rattle.record.specs.Places.{phase, done, mark, elapsed, input, analog, flag, analogFlag, output, sizeOf, indexOf, at, word, put, wordsOf, putWords};
+ghost use Rattle.record.specs.Sound.{inScan};
+ghost use Rattle.record.specs.Written.{putAll};
+use kinds::Ticks;
+use rules::BlockWords;
+
+// The places.
+const PHASE: usize = 0;
+
+const DONE: usize = 1;
+
+const MARK: usize = 2;
+
+const ELAPSED: usize = 3;
+
+// The first input, M1; before I1, the first analog input, M1, AM1 and the first block.
+const FIRST_INPUT: usize = 4;
+
+const FIRST_FLAG: usize = 36;
+
+const INPUTS: usize = 3;
+
+const ANALOGS: usize = 27;
+
+const FLAGS: usize = 35;
+
+const ANALOG_FLAGS: usize = 99;
+
+const BLOCKS: usize = 161;
+
+// Before the words of block 1.
+const FIRST_BLOCK: usize = 164;
+
+// ---- one word
+
+// The word at an index, 0 past the end.
+pub fn word_at(rec: &[i32], i: usize) -> i32
+    ensures { λ r. ⌜ r ≡ at (now (rec .entry)) i ⌝ }
+{
+    if i < rec.len() { rec[i] } else { 0 }
+}
+
+// Stores a word at an index; nothing past the end.
+pub fn put_word(rec: &mut [i32], i: usize, z: i32)
+    ensures { λ r. ⌜ now (rec .exit) ≡ set (now (rec .entry)) i z ⌝ }
+{
+    if i < rec.len() {
+        rec[i] = z;
+    }
+}
+
+// How many words the record of n blocks has.
+pub fn size_of(n: usize) -> usize
+    requires { ⌜ n ≤ 400 ⌝ }
+    ensures { λ r. ⌜ r ≡ sizeOf n ⌝ }
+{
+    FIRST_BLOCK + 3 * n
+}
+
+// Whether the phase is 1.
+pub fn in_scan(rec: &[i32]) -> bool
+    ensures { λ r. ⌜ r ≡ inScan (now (rec .entry)) ⌝ }
+{
+    words::bit_of(word_at(rec, PHASE))
+}
+
+// Blocks done.
+pub fn done_of(rec: &[i32]) -> usize
+    ensures { λ r. ⌜ (r ≡ over (word (now (rec .entry)) done)) × (r < 2 ^ 31) ⌝ }
+{
+    words::amount_of(word_at(rec, DONE)) as usize
+}
+
+// Stores the blocks done.
+pub fn put_done(rec: &mut [i32], d: usize)
+    requires { ⌜ d ≤ 400 ⌝ }
+    ensures { λ r. ⌜ now (rec .exit) ≡ put (now (rec .entry)) done (pos d) ⌝ }
+{
+    put_word(rec, DONE, words::word_of_count(d as u32));
+}
+
+// The first-scan mark.
+pub fn is_marked(rec: &[i32]) -> bool
+    ensures { λ r. ⌜ r ≡ bitOf (word (now (rec .entry)) mark) ⌝ }
+{
+    words::bit_of(word_at(rec, MARK))
+}
+
+// e, as the ticks since the last latch.
+pub fn elapsed_of(rec: &[i32]) -> Ticks
+    ensures { λ r. ⌜ (r ≡ ticks (over (word (now (rec .entry)) elapsed))) × (r .0 < 2 ^ 31) ⌝ }
+{
+    Ticks(words::amount_of(word_at(rec, ELAPSED)))
+}
+
+// ---- what a connector may read
+
+// I n.
+pub fn input_at(rec: &[i32], n: usize) -> i32
+    requires { ⌜ n < 65536 ⌝ }
+    ensures { λ r. ⌜ r ≡ word (now (rec .entry)) (input n) ⌝ }
+{
+    word_at(rec, INPUTS + n)
+}
+
+// Analog input n.
+pub fn analog_at(rec: &[i32], n: usize) -> i32
+    requires { ⌜ n < 65536 ⌝ }
+    ensures { λ r. ⌜ r ≡ word (now (rec .entry)) (analog n) ⌝ }
+{
+    word_at(rec, ANALOGS + n)
+}
+
+// M n.
+pub fn flag_at(rec: &[i32], n: usize) -> i32
+    requires { ⌜ n < 65536 ⌝ }
+    ensures { λ r. ⌜ r ≡ word (now (rec .entry)) (flag n) ⌝ }
+{
+    word_at(rec, FLAGS + n)
+}
+
+// AM n.
+pub fn analog_flag_at(rec: &[i32], n: usize) -> i32
+    requires { ⌜ n < 65536 ⌝ }
+    ensures { λ r. ⌜ r ≡ word (now (rec .entry)) (analogFlag n) ⌝ }
+{
+    word_at(rec, ANALOG_FLAGS + n)
+}
+
+// The output of block k.
+pub fn output_at(rec: &[i32], k: usize) -> i32
+    requires { ⌜ k < 65536 ⌝ }
+    ensures { λ r. ⌜ r ≡ word (now (rec .entry)) (output k) ⌝ }
+{
+    word_at(rec, BLOCKS + 3 * k)
+}
+
+// ---- the three words of a block
+
+// Those of block k.
+pub fn words_of(rec: &[i32], k: usize) -> BlockWords
+    requires { ⌜ k ≤ 400 ⌝ }
+    ensures { λ r. ⌜ r ≡ wordsOf (now (rec .entry)) k ⌝ }
+{
+    let i = BLOCKS + 3 * k;
+    rules::three_of(word_at(rec, i), word_at(rec, i + 1), word_at(rec, i + 2))
+}
+
+// Stores those of block k.
+pub fn put_words(rec: &mut [i32], k: usize, w: BlockWords)
+    requires { ⌜ k ≤ 400 ⌝ }
+    ensures { λ r. ⌜ now (rec .exit) ≡ putWords (now (rec .entry)) k w ⌝ }
+{
+    let i = BLOCKS + 3 * k;
+    let output = w.output;
+    let remembered = w.remembered;
+    let number = w.number;
+    put_word(rec, i, output);
+    put_word(rec, i + 1, remembered);
+    put_word(rec, i + 2, number);
+}

@@ -1,0 +1,1 @@
+// The inputs of a block, and its step.
