@@ -55,3 +55,54 @@ pub fn bit_from(rec: &[i32], unused: bool, class: usize, number: usize) -> bool
 {
     (128 <= class) ^ plain_bit(rec, unused, class, number)
 }
+
+// The four digital inputs of a line.
+fn bits_of(kinds: &KindTable, rec: &[i32], line: Line) -> [bool; 4]
+    requires { ⌜ (now kinds ≡ kindsTable) × Fine line ⌝ }
+    ensures { λ r. ⌜ r ≡ bitsOf (now (rec .entry)) line ⌝ }
+{
+    let unused = kinds::unused_counts(kinds, line.kind);
+    let classes = line.classes;
+    let numbers = line.numbers;
+    [
+        bit_from(rec, unused, classes[0], numbers[0]),
+        bit_from(rec, unused, classes[1], numbers[1]),
+        bit_from(rec, unused, classes[2], numbers[2]),
+        bit_from(rec, unused, classes[3], numbers[3]),
+    ]
+}
+
+// The two analog ones.
+fn values_of(rec: &[i32], line: Line) -> [i32; 2]
+    requires { ⌜ Fine line ⌝ }
+    ensures { λ r. ⌜ r ≡ valuesOf (now (rec .entry)) line ⌝ }
+{
+    let classes = line.classes;
+    let numbers = line.numbers;
+    let x = value_from(rec, classes[0], numbers[0]);
+    let y = value_from(rec, classes[1], numbers[1]);
+    [x, y]
+}
+
+// What the three words of block k become.
+fn becomes(kinds: &KindTable, rec: &[i32], k: usize, line: Line) -> BlockWords
+    requires { ⌜ (now kinds ≡ kindsTable) × Fine line × Sixteen (valuesOf (now rec) line) × (k ≤ 400) ⌝ }
+    ensures { λ r. ⌜ r ≡ becomesOf (now (rec .entry)) k line ⌝ }
+{
+    let bits = bits_of(kinds, rec, line);
+    let values = values_of(rec, line);
+    let was = record::words_of(rec, k);
+    let e = record::elapsed_of(rec);
+    let kind = line.kind;
+    let prepared = line.prepared;
+    blocks::worked_out(kind, bits, values, prepared, was, e)
+}
+
+// Works out block k: its three words, and no other.
+pub fn step(kinds: &KindTable, rec: &mut [i32], k: usize, line: Line)
+    requires { ⌜ (now kinds ≡ kindsTable) × Fine line × Sixteen (valuesOf (now rec) line) × (k ≤ 400) ⌝ }
+    ensures { λ r. ⌜ now (rec .exit) ≡ putWords (now (rec .entry)) k (becomesOf (now (rec .entry)) k line) ⌝ }
+{
+    let w = becomes(kinds, &rec[..], k, line);
+    record::put_words(rec, k, w);
+}
