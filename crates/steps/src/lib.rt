@@ -1,20 +1,31 @@
 // The inputs of a block, resolved together, its step, and the steps of a turn.
 ghost use mathlib.Core.Path.{_≡_};
-ghost use mathlib.Core.Bool.{true};
-ghost use Prim.Native.Nat.{suc, _+_, _≤_, _<_, min};
-ghost use lib.ListN.{length, getD};
+ghost use Prim.Native.Nat.{_+_, _-_, _≤_, _<_, min};
+ghost use lib.ListN.{getD};
 ghost use Rattle.kinds.specs.Table.{kindsTable};
 ghost use Rattle.blocks.specs.Blocks.{Sixteen};
 ghost use Rattle.decoding.specs.Decoded.{blockAt};
 ghost use Rattle.lines.specs.Lines.{lineOf};
-ghost use Rattle.record.specs.Places.{sizeOf, putWords};
-ghost use Rattle.record.specs.Sound.{sound};
-ghost use Rattle.record.specs.Written.{linesAt, Stand};
-ghost use Rattle.steps.specs.Steps.{valueFrom, plainBit, bitFrom, bitsOf, valuesOf, becomes as becomesOf, stepsFrom, turnOf, turned};
-ghost use Rattle.steps.specs.Wired.{connector, Fine, AllFine};
+ghost use Rattle.record.specs.Places.{putWords};
+ghost use Rattle.record.specs.Written.{linesAt};
+ghost use Rattle.steps.specs.Steps.{valueFrom, plainBit, bitFrom, bitsOf, valuesOf, becomes as becomesOf, stepsFrom, toGo, turnOf, turned};
+ghost use Rattle.steps.specs.Wired.{connector, Fine, Next, Runs};
 use kinds::KindTable;
 use lines::Line;
 use rules::BlockWords;
+
+// What a turn worked out, and what is to go then.
+pub struct Progress {
+    pub worked: usize,
+    pub left: usize,
+}
+
+// The lesser of two.
+fn least(a: usize, b: usize) -> usize
+    ensures { λ r. ⌜ r ≡ min a b ⌝ }
+{
+    if a < b { a } else { b }
+}
 
 // The word that a connector reads, by its class byte and number; 0 where it reads none.
 pub fn value_from(rec: &[i32], class: usize, number: usize) -> i32
@@ -105,4 +116,58 @@ pub fn step(kinds: &KindTable, rec: &mut [i32], k: usize, line: Line)
 {
     let w = becomes(kinds, &rec[..], k, line);
     record::put_words(rec, k, w);
+}
+
+// Works out the block behind the first d.
+fn step_at(kinds: &KindTable, bytes: &[u8], offsets: &[usize; 400], rec: &mut [i32], d: usize)
+    requires { ⌜ (now kinds ≡ kindsTable) × Next (now bytes) (now offsets) d (now rec) ⌝ }
+    ensures { λ r. ⌜ now (rec .exit) ≡ putWords (now (rec .entry)) (d + 1) (becomesOf (now (rec .entry)) (d + 1) (lineOf (blockAt (now (bytes .entry)) (getD (now (offsets .entry)) d 0)))) ⌝ }
+{
+    let line = lines::line_at(kinds, bytes, offsets[d]);
+    step(kinds, rec, d + 1, line);
+}
+
+// Works out the m blocks behind the first d, of n.
+fn steps_from(
+    kinds: &KindTable,
+    bytes: &[u8],
+    offsets: &[usize; 400],
+    n: usize,
+    rec: &mut [i32],
+    d: usize,
+    m: usize,
+)
+    requires { ⌜ (now kinds ≡ kindsTable) × Runs (now bytes) n (now offsets) (now rec) × (d + m ≤ n) ⌝ }
+    ensures { λ r. ⌜ now (rec .exit) ≡ stepsFrom (linesAt (now (bytes .entry)) n (now (offsets .entry))) d m (now (rec .entry)) ⌝ }
+{
+    let mut i = 0;
+    while i < m {
+        step_at(kinds, bytes, offsets, rec, d + i);
+        i += 1;
+    }
+}
+
+// Works out up to c of the blocks to go, and tells how many were worked out and how many are to go then.
+pub fn turn(
+    kinds: &KindTable,
+    bytes: &[u8],
+    offsets: &[usize; 400],
+    n: usize,
+    rec: &mut [i32],
+    c: u32,
+) -> Progress
+    requires { ⌜ (now kinds ≡ kindsTable) × Runs (now bytes) n (now offsets) (now rec) ⌝ }
+    ensures { λ r. ⌜ (r .worked ≡ turnOf (linesAt (now (bytes .entry)) n (now (offsets .entry))) c (now (rec .entry)))
+        × (r .left ≡ toGo (linesAt (now (bytes .entry)) n (now (offsets .entry))) (now (rec .entry)) - r .worked)
+        × (now (rec .exit) ≡ turned (linesAt (now (bytes .entry)) n (now (offsets .entry))) c (now (rec .entry))) ⌝ }
+{
+    let d = record::done_of(&rec[..]);
+    let left = n - d;
+    let worked = least(c as usize, left);
+    steps_from(kinds, bytes, offsets, n, rec, d, worked);
+    record::put_done(rec, d + worked);
+    Progress {
+        worked,
+        left: left - worked,
+    }
 }
