@@ -13,6 +13,10 @@ use Rattle.record.specs.Places.{sizeOf}
 use Rattle.record.specs.Sound.{lineAt, fitsAt, inScan, atRest}
 use Rattle.steps.specs.Steps.{inputOf}
 
+-- a class byte and a number as a connector
+abbrev pub connector : ℕ → ℕ → Connector
+connector class number = record { class = class; number = number }
+
 -- the place that a connector reads is one that there is
 pub record Wired (c : Connector) : Type 0 where
   pub small : c .number < 65536
