@@ -6,18 +6,20 @@ use mathlib.Core.Path.{_≡_, refl, sym, ap, _∙_}
 use mathlib.Core.Bool.{Bool, true, false, cond, _&&_}
 use mathlib.Core.List.{List, [], _∷_, _++_}
 use lib.Dec.{eqb, ltb}
-use lib.ListN.{length, set, length-set, length-replicate, getD-replicate, List·getD-append, take, drop, length-take, length-drop}
+use lib.ListN.{length, set, replicate, length-set, length-replicate, getD-replicate, List·getD-append, take, drop, length-take, length-drop}
 use lib.Seq.{getD-set-same, getD-set-other, ext-getD, getD-append-add, getD-take, getD-drop}
 use lib.IntN.{ℤ, pos}
 use borrow.Author.Tests.{ltb-true, ltb-false, eqb-true, eqb-false, lt-ltb, le-ltb}
 use Rattle.connectors.proofs.Laws.{same-at}
-use Rattle.decoding.specs.Decoded.{Row}
+use Rattle.fields.specs.Fields.{classAt, numberIn}
+use Rattle.decoding.specs.Decoded.{Row, rowAt}
+use Rattle.decoding.specs.Held.{rowsAt}
 use Rattle.kept.specs.Keeps.{All}
 use Rattle.record.specs.Places.{at}
 use Rattle.record.specs.Written.{putAll}
 use Rattle.record.proofs.Runs.{put-all-length, put-all-in}
 use Rattle.destinations.specs.Destinations.{Q, M, AQ, AM, carried, destined, listFrom, outputsOf}
-use Rattle.destinations.specs.Slots.{base, slot, filled, Aimed, at-q, at-m, at-aq, at-am, RowFine}
+use Rattle.destinations.specs.Slots.{base, slot, filled, Aimed, at-q, at-m, at-aq, at-am, RowFine, Rows}
 
 -- ---- slots
 
@@ -46,10 +48,10 @@ slot-below class number (at-aq e a b) = rw e (omega arith)
 slot-below class number (at-am e a b) = rw e (omega arith)
 
 -- the class whose slot it is
-abbrev classAt : ℕ → ℕ
-classAt i = cond (ltb i 20) Q (cond (ltb i 28) AQ (cond (ltb i 92) M AM))
+abbrev ownerOf : ℕ → ℕ
+ownerOf i = cond (ltb i 20) Q (cond (ltb i 28) AQ (cond (ltb i 92) M AM))
 
-class-back : (class number : ℕ) → Aimed class number → classAt (slot class number) ≡ class
+class-back : (class number : ℕ) → Aimed class number → ownerOf (slot class number) ≡ class
 unfolding base
 class-back class n (at-q e a b) = rw (e, lt-ltb (0 + (n - 1)) 20 (omega arith))
 class-back class n (at-aq e a b) = rw (e, le-ltb (20 + (n - 1)) 20 (omega arith), lt-ltb (20 + (n - 1)) 28 (omega arith))
@@ -59,7 +61,7 @@ class-back class n (at-am e a b) = rw (e, le-ltb (92 + (n - 1)) 20 (omega arith)
 -- two destinations have two slots
 module _ (a b m n : ℕ) (p : Aimed a m) (q : Aimed b n) where
   same-class : slot a m ≡ slot b n → a ≡ b
-  same-class e = sym (class-back a m p) ∙ ap classAt e ∙ class-back b n q
+  same-class e = sym (class-back a m p) ∙ ap ownerOf e ∙ class-back b n q
 
   same-number : a ≡ b → slot a m ≡ slot b n → m ≡ n
   same-number f e =
@@ -92,6 +94,40 @@ module _ (l : List ℤ) (class n : ℕ) (aim : Aimed class n) where
   filled-at (row ∷ rows) h =
       filled-row (row .class) (row .number) (carried l row) (filled rows l) (destined rows l class n)
       (eqb (row .class) class) (eqb (row .number) n) refl refl (filled-length rows l) (h .0) (filled-at rows (h .1))
+
+-- ---- the rows of the bytes, the last one first
+
+fine-from : (s : List ℕ) (at count j : ℕ) → All RowFine (rowsAt s at count) → j < count → RowFine (rowAt s (at + 8 * j))
+unfolding rowsAt
+fine-from s at zero j h b = let z : ⊥ = omega arith in absurd z
+fine-from s at (suc count) zero h b = rw (add-zero at) (h .0)
+fine-from s at (suc count) (suc j) h b =
+    let e : at + 8 + 8 * j ≡ at + 8 * suc j = omega arith in
+    rw e at (fine-from s (at + 8) count j (h .1) (omega arith))
+
+module _ (s : List ℕ) (start count : ℕ) (l : List ℤ) where
+  -- row j
+  pub row-fine : Rows s start count → (j : ℕ) → j < count → RowFine (rowAt s (start + 8 * j))
+  row-fine rows j b = fine-from s start count j (rows .fine) b
+
+  -- the rows from the one at left on
+  abbrev pub filledFrom : ℕ → List ℤ
+  filledFrom left = filled (rowsAt s (start + 8 * left) (count - left)) l
+
+  pub filled-none : filledFrom count ≡ replicate 156 (pos 0)
+  unfolding filled rowsAt
+  filled-none = let e : count - count ≡ 0 = omega arith in rw e
+
+  pub filled-more : (left : ℕ) → 0 < left → left ≤ count
+      → filledFrom (left - 1) ≡ set (filledFrom left) (slot (classAt s (start + 8 * (left - 1))) (numberIn s (start + 8 * (left - 1)))) (carried l (rowAt s (start + 8 * (left - 1))))
+  unfolding filled rowsAt
+  filled-more left a b =
+      let e : count - (left - 1) ≡ suc (count - left) = omega arith in
+      let f : start + 8 * (left - 1) + 8 ≡ start + 8 * left = omega arith in
+      rw (e, f)
+
+  pub filled-all : filledFrom 0 ≡ filled (rowsAt s start count) l
+  filled-all = rw (add-zero start, sub-zero count)
 
 -- ---- by index
 
@@ -126,11 +162,12 @@ pub record Part (slots : List ℤ) (a m : ℕ) (from : List ℤ) : Type 0 where
   pub long : length from ≡ m
   pub words : (k : ℕ) → k < m → at from k ≡ at slots (a + k)
 
-pub part-of : (slots : List ℤ) (a m : ℕ) → a + m ≤ length slots → Part slots a m (take m (drop a slots))
-part-of slots a m b =
+pub part-of : (rows : List Row) (l slots : List ℤ) (a m : ℕ) → slots ≡ filled rows l → a + m ≤ 156 → Part (filled rows l) a m (take m (drop a slots))
+part-of rows l slots a m e b =
+    let f : length slots ≡ 156 = ap length e ∙ filled-length rows l in
     record {
       long = simp (length-take, length-drop) (omega arith);
-      words = λ k c. getD-take m (drop a slots) k (pos 0) c ∙ getD-drop a slots k (pos 0);
+      words = λ k c. getD-take m (drop a slots) k (pos 0) c ∙ getD-drop a slots k (pos 0) ∙ ap (λ (x : List ℤ). at x (a + k)) e;
     }
 
 -- ---- the outputs
