@@ -1,5 +1,5 @@
--- What a destination gets: 0 without a row; what its row carries, wherever among the rows it stands. The rows of a circuit that keeps the
--- rules are fine. Assumes nothing.
+-- What a destination gets: 0 without a row; what its row carries, wherever among the rows it stands. The rows of an accepted
+-- circuit are fine. Assumes nothing.
 use Prim.Native.Nat.{ℕ, zero, suc, _≤_}
 use native.Mathlib.Omega.{arith}
 use mathlib.Core.Path.{_≡_, refl, sym, ap, _∙_, subst}
@@ -13,11 +13,14 @@ use Rattle.refusals.specs.Limited.{Modest}
 use Rattle.refusals.proofs.Tests.{or-false}
 use Rattle.fields.specs.Fields.{limitOf}
 use Rattle.decoding.specs.Decoded.{Row, destinationUsed}
-use Rattle.kept.specs.Keeps.{All, Each, EachAfter, Once, RowKeeps}
+use Rattle.decoding.specs.declared.Head.{Head}
+use Rattle.circuit.specs.Judged.{Accepts}
+use Rattle.kept.specs.Keeps.{Bytes, All, Each, EachAfter, Once, RowKeeps}
 use Rattle.kept.proofs.Lists.{all-map}
 use Rattle.kept.proofs.Rules.{once}
+use Rattle.kept.proofs.Exactly.{accepted-exactly}
 use Rattle.destinations.specs.Destinations.{carried, destined}
-use Rattle.destinations.specs.Slots.{Aimed, at-q, at-m, at-aq, at-am, RowFine}
+use Rattle.destinations.specs.Slots.{Aimed, at-q, at-m, at-aq, at-am, RowFine, Rows}
 
 -- ---- rows of other destinations
 
@@ -64,3 +67,13 @@ aimed-by limits (suc (suc (suc (suc (suc k))))) number m a b = let z : ⊥ = ome
 pub rows-fine : (limits : Limits) (n : ℕ) (rows : List Row) → Modest limits → All (RowKeeps limits n) rows → All RowFine rows
 rows-fine limits n rows m h =
     all-map (RowKeeps limits n) RowFine (λ row k. aimed-by limits (row .class) (row .number) m (k .low) (k .high)) rows h
+
+pub accepted-rows : (limits : Limits) (s : List ℕ) (head : Head) (offsets : List ℕ) → Modest limits → Bytes s → Accepts limits s head offsets
+    → Rows s (head .start) (head .rows)
+accepted-rows limits s head offsets m small a =
+    let keeps = accepted-exactly limits s small (a .circuit) .0 (a .is) .0 in
+    let end = a .rows-end in
+    record {
+      there = omega arith;
+      fine = subst (All RowFine) (sym (a .rows-there)) (rows-fine limits (a .circuit .n) (a .circuit .rows) m (keeps .rows));
+    }

@@ -1,7 +1,7 @@
 -- What a publish writes to a record is the change of each word that the definition gives. Assumes nothing.
-use Prim.Native.Nat.{ℕ, _+_, _-_, _*_, _≤_, _<_}
+use Prim.Native.Nat.{ℕ, _+_, _-_, _≤_, _<_}
 use native.Mathlib.Omega.{arith}
-use mathlib.Core.Path.{_≡_, refl, sym, ap, _∙_}
+use mathlib.Core.Path.{_≡_, refl, ap, _∙_}
 use mathlib.Core.Bool.{Bool, true, false, cond, _&&_}
 use mathlib.Core.List.{List}
 use lib.Dec.{eqb}
@@ -12,7 +12,7 @@ use borrow.Author.Tests.{eqb-true, eqb-false}
 use Rattle.words.specs.Signed.{bitOf}
 use Rattle.decoding.specs.Decoded.{Row}
 use Rattle.kept.specs.Keeps.{All}
-use Rattle.record.specs.Places.{Place, phase, done, mark, elapsed, input, analog, flag, analogFlag, block, indexOf, placeOf, at, word, put, change}
+use Rattle.record.specs.Places.{phase, mark, flag, indexOf, placeOf, at, word, put, change}
 use Rattle.record.specs.Written.{putAll}
 use Rattle.record.proofs.Located.{Spot, is-phase, is-done, is-mark, is-elapsed, is-input, is-analog, is-flag, is-analogFlag, is-block, is-change}
 use Rattle.record.proofs.Runs.{put-all-length, put-all-away, put-all-in}

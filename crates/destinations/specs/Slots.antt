@@ -37,6 +37,5 @@ RowFine row = Aimed (row .class) (row .number)
 
 -- rows that stand in the bytes one behind the other, each to a destination that there is
 pub record Rows (s : List ℕ) (start count : ℕ) : Type 0 where
-  pub few : count ≤ 156
   pub there : start + 8 * count ≤ length s
   pub fine : All RowFine (rowsAt s start count)

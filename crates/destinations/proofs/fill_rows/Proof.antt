@@ -29,18 +29,11 @@ sub-left c = omega arith
 
 -- src/lib.rt:66:33
 mul-fill-row : tie.Need-mul-fill-row Inv-loop μ-loop
-mul-fill-row c =
-    let rows = c .before .before .before .pre .0 in
-    let few = rows .few in
-    omega arith
+mul-fill-row c = omega arith
 
 -- src/lib.rt:66:25
 add-fill-row : tie.Need-add-fill-row Inv-loop μ-loop
-add-fill-row c =
-    let rows = c .before .before .before .pre .0 in
-    let few = rows .few in
-    let there = rows .there in
-    omega arith
+add-fill-row c = omega arith
 
 -- src/lib.rt:66:9
 fill-row-requires : tie.Need-fill-row-requires Inv-loop μ-loop
@@ -48,10 +41,11 @@ fill-row-requires c κs =
     let a = c .before .before .before .before .args in
     let here = c .before .before .loop in
     let rows = c .before .before .before .before .pre .0 in
-    let there = rows .there in
-    (omega arith,
-    row-fine (a .bytes .now) (a .start) (a .count) (a .rec .now) rows (here .left - 1) (omega arith),
-    ap length (here .inv .1) ∙ filled-length _ (a .rec .now))
+    let there = rows .there in (
+      omega arith,
+      row-fine (a .bytes .now) (a .start) (a .count) (a .rec .now) rows (here .left - 1) (omega arith),
+      ap length (here .inv .1) ∙ filled-length _ (a .rec .now),
+    )
 
 -- src/lib.rt:64:5
 loop-less : tie.Need-loop-less Inv-loop μ-loop
@@ -61,9 +55,10 @@ loop-less c = omega arith
 loop-again : tie.Need-loop-again Inv-loop μ-loop
 loop-again c =
     let a = c .before .before .before .before .before .before .args in
-    let here = c .before .before .before .before .loop in
-    (omega arith,
-    rw (filled-more (a .bytes .now) (a .start) (a .count) (a .rec .now) (here .left) (omega arith) (here .inv .0), ← here .inv .1) (c .before .fill-row .ensures))
+    let here = c .before .before .before .before .loop in (
+      omega arith,
+      rw (filled-more (a .bytes .now) (a .start) (a .count) (a .rec .now) (here .left) (omega arith) (here .inv .0), ← here .inv .1) (c .before .fill-row .ensures),
+    )
 
 -- src/lib.rt:59:1
 same-length : tie.Need-same-length Inv-loop μ-loop
