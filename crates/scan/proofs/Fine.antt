@@ -1,0 +1,136 @@
+-- The plan of an accepted circuit is one that the calls can count on: accepted-exactly and accepted-ready give it. Assumes nothing.
+use Prim.Native.Nat.{ℕ, zero, suc, _+_, _≤_, _<_}
+use native.Mathlib.Nat.{le-of-suc-le-suc}
+use native.Mathlib.Omega.{arith}
+use mathlib.Core.Path.{_≡_, refl, sym, ap, _∙_, subst}
+use mathlib.Core.Bool.{Bool, true, false}
+use mathlib.Core.List.{List, [], _∷_, map}
+use mathlib.Core.Option.{none}
+use lib.Dec.{ltb}
+use lib.ListN.{length, getD, length-map}
+use borrow.Author.Tests.{ltb-true, ltb-false}
+use Rattle.kinds.specs.Kinds.{kindOf}
+use Rattle.refusals.specs.Limited.{ours}
+use Rattle.connectors.specs.Connectors.{Connector, classOf, least, greatest}
+use Rattle.fields.specs.Fields.{limitOf}
+use Rattle.decoding.specs.Decoded.{Block, Row, Circuit}
+use Rattle.circuit.specs.Circuit.{verdict, accepted}
+use Rattle.kept.specs.Keeps.{Bytes, Keeps, Allowed, RowKeeps}
+use Rattle.kept.proofs.Lists.{all-map}
+use Rattle.kept.proofs.Exactly.{accepted-exactly}
+use Rattle.lines.specs.Lines.{unused, nth, lineOf, Ready}
+use Rattle.lines.proofs.Ready.{accepted-ready}
+use Rattle.lines.specs.declared.Line.{Line}
+use Rattle.record.specs.Sound.{linesOf, noLine, lineAt}
+use Rattle.steps.specs.Steps.{inputOf}
+use Rattle.steps.specs.Wired.{Wired, Fine, AllFine}
+use Rattle.scan.specs.Calls.{planOf}
+use Rattle.scan.specs.Fine.{RowFine, FinePlan}
+
+-- ---- connectors
+
+-- a connector that is allowed, wherever it stands
+pub allowed-wired : (place n : ℕ) (c : Connector) → Allowed ours place n c → Wired c
+unfolding least greatest
+allowed-wired place n c a =
+    record {
+      small = a .fits;
+      input = λ e. rw e at (a .high);
+      first-input = λ e. rw e at (a .low);
+      flag = λ e. rw e at (a .high);
+      analog = λ e. rw e at (a .high);
+      analogFlag = λ e. rw e at (a .high);
+    }
+
+unused-wired : Wired unused
+unused-wired =
+    record {
+      small = omega arith;
+      input = λ e. omega arith;
+      first-input = λ e. let z : ⊥ = omega arith in absurd z;
+      flag = λ e. omega arith;
+      analog = λ e. omega arith;
+      analogFlag = λ e. omega arith;
+    }
+
+-- ---- lines
+
+input-is : (b : Block) (j : ℕ) → j < 4 → inputOf (lineOf b) j ≡ nth (b .inputs) j
+unfolding lineOf
+input-is b zero h = refl
+input-is b (suc zero) h = refl
+input-is b (suc (suc zero)) h = refl
+input-is b (suc (suc (suc zero))) h = refl
+input-is b (suc (suc (suc (suc j)))) h = let z : ⊥ = omega arith in absurd z
+
+module _ (n : ℕ) (before : List Block) (b : Block) (r : Ready ours n before b) where
+  connector-wired : (j : ℕ) → Wired (nth (b .inputs) j)
+  connector-wired j = go (ltb j d) (ltb j (d + a)) refl refl
+    where
+      d : ℕ
+      d = kindOf (b .kind) .digitals
+      a : ℕ
+      a = kindOf (b .kind) .analogs
+      go : (x y : Bool) → ltb j d ≡ x → ltb j (d + a) ≡ y → Wired (nth (b .inputs) j)
+      go true y e f = allowed-wired _ n _ (r .digital j (ltb-true j d e) .allowed)
+      go false true e f = allowed-wired _ n _ (r .analog j (ltb-false j d e) (ltb-true j (d + a) f) .allowed)
+      go false false e f = rw (r .none j (ltb-false j (d + a) f)) unused-wired
+
+  ready-fine : Fine (lineOf b)
+  unfolding lineOf
+  ready-fine =
+      record {
+        is-known = r .is-known;
+        fit = r .fit;
+        wired = λ j h. rw (input-is b j h) (connector-wired j);
+      }
+
+line-at : (blocks : List Block) (d : Block) (j : ℕ) → j < length blocks → getD (map lineOf blocks) j noLine ≡ lineOf (getD blocks j d)
+line-at [] d j h = let z : ⊥ = omega arith in absurd z
+line-at (b ∷ blocks) d zero h = refl
+line-at (b ∷ blocks) d (suc j) h = line-at blocks d j (le-of-suc-le-suc h)
+
+-- ---- rows
+
+class-within : (class k : ℕ) → 1 ≤ k → k ≤ limitOf ours class → (1 ≤ class) × (class ≤ 4)
+unfolding limitOf
+class-within zero k h m = let z : ⊥ = omega arith in absurd z
+class-within (suc zero) k h m = (omega arith, omega arith)
+class-within (suc (suc zero)) k h m = (omega arith, omega arith)
+class-within (suc (suc (suc zero))) k h m = (omega arith, omega arith)
+class-within (suc (suc (suc (suc zero)))) k h m = (omega arith, omega arith)
+class-within (suc (suc (suc (suc (suc class))))) k h m = let z : ⊥ = omega arith in absurd z
+
+row-fine : (n : ℕ) (r : Row) → RowKeeps ours n r → RowFine r
+row-fine n r k =
+    let class = class-within (r .class) (r .number) (k .low) (k .high) in
+    record { class-low = class .0; class-high = class .1; low = k .low; high = k .high; wired = allowed-wired _ n (r .from) (k .from) }
+
+-- ---- the plan
+
+-- any block
+abbrev some-block : Block
+some-block = record { kind = 0; option = 0; inputs = []; parameters = []; label = none }
+
+module _ (s : List ℕ) (small : Bytes s) (c : Circuit) (e : verdict s ≡ accepted c) where
+  keeps : Keeps ours c
+  keeps = accepted-exactly ours s small c .0 e .0
+
+  pub lines-length : length (linesOf c) ≡ c .n
+  unfolding linesOf
+  lines-length = length-map (c .blocks) lineOf ∙ sym (keeps .count)
+
+  line-fine : (k : ℕ) → 1 ≤ k → k ≤ length (linesOf c) → Fine (lineAt (linesOf c) k)
+  unfolding linesOf
+  line-fine zero low high = let z : ⊥ = omega arith in absurd z
+  line-fine (suc j) low high =
+      let inside : j < c .n = omega (arith, lines-length) in
+      let there : j < length (c .blocks) = omega (arith, keeps .count) in
+      rw (line-at (c .blocks) some-block j there) (ready-fine (c .n) _ _ (accepted-ready ours s small c e some-block j inside))
+
+  pub accepted-fine : FinePlan (planOf c)
+  accepted-fine =
+      record {
+        lines = record { few = omega (arith, lines-length, keeps .few); fine = line-fine };
+        rows = all-map (RowKeeps ours (c .n)) RowFine (row-fine (c .n)) (c .rows) (keeps .rows);
+      }

@@ -1,0 +1,103 @@
+-- A step reads no place but those that `readBy` lists: where two records agree on them it makes the same three words. So a word that it
+-- neither reads nor writes may be stored before it or after it; blocks done is one. Assumes nothing.
+use Prim.Native.Nat.{ℕ, _<_}
+use native.Mathlib.Omega.{arith}
+use mathlib.Core.Path.{_≡_, refl, sym}
+use mathlib.Core.Bool.{Bool}
+use mathlib.Core.List.{List, [], _∷_}
+use mathlib.Core.Option.{Option, none, some}
+use lib.ListN.{take, drop}
+use lib.Seq.{getD-set-other, set-comm}
+use lib.IntN.{ℤ, pos}
+use Rattle.kinds.specs.Kinds.{kindOf}
+use Rattle.rules.specs.declared.BlockWords.{BlockWords}
+use Rattle.connectors.specs.Connectors.{Connector}
+use Rattle.kept.specs.Keeps.{All}
+use Rattle.kept.proofs.Lists.{all-map}
+use Rattle.lines.specs.declared.Line.{Line}
+use Rattle.record.specs.Places.{Place, done, elapsed, block, output, remembered, number, indexOf, word, put, putWords}
+use Rattle.record.specs.Sound.{lineAt}
+use Rattle.steps.specs.Steps.{sourceOf, inputOf, orNone, sources, readBy, readFrom, valueFrom, plainBit, bitFrom, bitsOf, valuesOf, becomes, step, order, along, stepsFrom}
+use Rattle.steps.proofs.Keeps.{Connects, to-nothing, to-input, to-flag, to-analog, to-analogFlag, to-block, connects}
+
+-- ---- two records that agree on what is read
+
+module _ (l m : List ℤ) where
+  -- they agree there
+  abbrev Agree : Place → Type 0
+  Agree p = word l p ≡ word m p
+
+  -- on the first source of a list, and on the others
+  first-source : (o : Option Place) (ps : List Place) → All Agree (orNone o ps) → (readFrom l o ≡ readFrom m o) × All Agree ps
+  first-source none ps h = (refl, h)
+  first-source (some p) ps h = (h .0, h .1)
+
+  bit-same : (unused : Bool) (c : Connector) → valueFrom l c ≡ valueFrom m c → bitFrom l unused c ≡ bitFrom m unused c
+  unfolding bitFrom plainBit
+  bit-same unused c e = rw e
+
+  pub becomes-same : (k : ℕ) (line : Line) → All Agree (readBy k line) → becomes l k line ≡ becomes m k line
+  unfolding becomes bitsOf valuesOf
+  becomes-same k line h =
+      let o : ℕ → Option Place = λ j. sourceOf (inputOf line j) in
+      let u = kindOf (line .kind) .unused in
+      let s0 = first-source (o 0) (orNone (o 1) (orNone (o 2) (orNone (o 3) []))) (h .1 .1 .1 .1) in
+      let s1 = first-source (o 1) (orNone (o 2) (orNone (o 3) [])) (s0 .1) in
+      let s2 = first-source (o 2) (orNone (o 3) []) (s1 .1) in
+      let s3 = first-source (o 3) [] (s2 .1) in
+      rw (bit-same u (inputOf line 0) (s0 .0), bit-same u (inputOf line 1) (s1 .0), bit-same u (inputOf line 2) (s2 .0), bit-same u (inputOf line 3) (s3 .0), s0 .0, s1 .0, h .0, h .1 .0, h .1 .1 .0, h .1 .1 .1 .0)
+
+-- ---- a word that a step neither reads nor writes
+
+put-words-other : (l : List ℤ) (k : ℕ) (w : BlockWords) (q : Place) (z : ℤ) → ((j : ℕ) → j < 3 → indexOf (block k j) ≡ indexOf q → ⊥) → putWords (put l q z) k w ≡ put (putWords l k w) q z
+put-words-other l k w q z a =
+    let l1 = put l (output k) (w .output) in
+    let l2 = put l1 (remembered k) (w .remembered) in
+    rw (set-comm l (indexOf q) (indexOf (output k)) z (w .output) (λ e. a 0 (omega arith) (sym e)), set-comm l1 (indexOf q) (indexOf (remembered k)) z (w .remembered) (λ e. a 1 (omega arith) (sym e)))
+    (set-comm l2 (indexOf q) (indexOf (number k)) z (w .number) (λ e. a 2 (omega arith) (sym e)))
+
+-- the word of p stands elsewhere than that of q
+abbrev pub Elsewhere : Place → Place → Type 0
+Elsewhere q p = indexOf p ≡ indexOf q → ⊥
+
+pub step-apart : (lines : List Line) (q : Place) (k : ℕ) (l : List ℤ) (z : ℤ) → ((j : ℕ) → j < 3 → Elsewhere q (block k j)) → Elsewhere q elapsed → All (Elsewhere q) (sources (lineAt lines k)) → step lines k (put l q z) ≡ put (step lines k l) q z
+unfolding step
+step-apart lines q k l z own e read =
+    let line = lineAt lines k in
+    let other : (p : Place) → Elsewhere q p → word (put l q z) p ≡ word l p = λ p ne. getD-set-other l (indexOf q) (indexOf p) z (pos 0) ne in
+    let agree = all-map (Elsewhere q) (λ (p : Place). word (put l q z) p ≡ word l p) other (readBy k line)
+    (own 0 (omega arith), (own 1 (omega arith), (own 2 (omega arith), (e, read)))) in
+    rw (becomes-same (put l q z) l k line agree) (put-words-other l k (becomes l k line) q z own)
+
+-- ---- blocks done is such a word
+
+source-apart : (c : Connector) (ps : List Place) → Connects c → All (Elsewhere done) ps → All (Elsewhere done) (orNone (sourceOf c) ps)
+unfolding indexOf
+source-apart c ps (to-nothing e) h = rw e h
+source-apart c ps (to-input k e) h = rw e (λ b. omega arith, h)
+source-apart c ps (to-flag k e) h = rw e (λ b. omega arith, h)
+source-apart c ps (to-analog k e) h = rw e (λ b. omega arith, h)
+source-apart c ps (to-analogFlag k e) h = rw e (λ b. omega arith, h)
+source-apart c ps (to-block e) h = rw e (λ b. omega arith, h)
+
+sources-apart : (line : Line) → All (Elsewhere done) (sources line)
+sources-apart line =
+    let o : ℕ → Option Place = λ j. sourceOf (inputOf line j) in
+    source-apart (inputOf line 0) (orNone (o 1) (orNone (o 2) (orNone (o 3) []))) (connects (inputOf line 0))
+    (source-apart (inputOf line 1) (orNone (o 2) (orNone (o 3) [])) (connects (inputOf line 1))
+    (source-apart (inputOf line 2) (orNone (o 3) []) (connects (inputOf line 2))
+    (source-apart (inputOf line 3) [] (connects (inputOf line 3)) tt)))
+
+module _ (lines : List Line) (z : ℤ) where
+  pub step-other : (k : ℕ) (l : List ℤ) → step lines k (put l done z) ≡ put (step lines k l) done z
+  unfolding indexOf
+  step-other k l = step-apart lines done k l z (λ j h e. omega arith) (λ e. omega arith) (sources-apart (lineAt lines k))
+
+  along-other : (ks : List ℕ) (l : List ℤ) → along lines ks (put l done z) ≡ put (along lines ks l) done z
+  unfolding along
+  along-other [] l = refl
+  along-other (k ∷ ks) l = rw (step-other k l) (along-other ks (step lines k l))
+
+  pub steps-other : (d m : ℕ) (l : List ℤ) → stepsFrom lines d m (put l done z) ≡ put (stepsFrom lines d m l) done z
+  unfolding stepsFrom
+  steps-other d m l = along-other (take m (drop d (order lines))) l
