@@ -2,7 +2,7 @@
 use Prim.Native.Nat.{ℕ, zero, suc, _+_, _≤_, _<_}
 use native.Mathlib.Nat.{le-of-suc-le-suc}
 use native.Mathlib.Omega.{arith}
-use mathlib.Core.Path.{_≡_, refl, sym, ap, _∙_, subst}
+use mathlib.Core.Path.{_≡_, refl, sym, _∙_}
 use mathlib.Core.Bool.{Bool, true, false}
 use mathlib.Core.List.{List, [], _∷_, map}
 use mathlib.Core.Option.{none}
@@ -11,7 +11,7 @@ use lib.ListN.{length, getD, length-map}
 use borrow.Author.Tests.{ltb-true, ltb-false}
 use Rattle.kinds.specs.Kinds.{kindOf}
 use Rattle.refusals.specs.Limited.{ours}
-use Rattle.connectors.specs.Connectors.{Connector, classOf, least, greatest}
+use Rattle.connectors.specs.Connectors.{Connector, least, greatest}
 use Rattle.fields.specs.Fields.{limitOf}
 use Rattle.decoding.specs.Decoded.{Block, Row, Circuit}
 use Rattle.circuit.specs.Circuit.{verdict, accepted}
@@ -20,10 +20,9 @@ use Rattle.kept.proofs.Lists.{all-map}
 use Rattle.kept.proofs.Exactly.{accepted-exactly}
 use Rattle.lines.specs.Lines.{unused, nth, lineOf, Ready}
 use Rattle.lines.proofs.Ready.{accepted-ready}
-use Rattle.lines.specs.declared.Line.{Line}
 use Rattle.record.specs.Sound.{linesOf, noLine, lineAt}
 use Rattle.steps.specs.Steps.{inputOf}
-use Rattle.steps.specs.Wired.{Wired, Fine, AllFine}
+use Rattle.steps.specs.Wired.{Wired, Fine}
 use Rattle.scan.specs.Calls.{planOf}
 use Rattle.scan.specs.Fine.{RowFine, FinePlan}
 
@@ -69,8 +68,10 @@ module _ (n : ℕ) (before : List Block) (b : Block) (r : Ready ours n before b)
     where
       d : ℕ
       d = kindOf (b .kind) .digitals
+
       a : ℕ
       a = kindOf (b .kind) .analogs
+
       go : (x y : Bool) → ltb j d ≡ x → ltb j (d + a) ≡ y → Wired (nth (b .inputs) j)
       go true y e f = allowed-wired _ n _ (r .digital j (ltb-true j d e) .allowed)
       go false true e f = allowed-wired _ n _ (r .analog j (ltb-false j d e) (ltb-true j (d + a) f) .allowed)

@@ -1,5 +1,5 @@
 -- What the calls count on, of the plan of an accepted circuit. Not part of what a reader has to believe.
-use Prim.Native.Nat.{ℕ, _≤_}
+use Prim.Native.Nat.{_≤_}
 use Rattle.refusals.specs.Limited.{ours}
 use Rattle.fields.specs.Fields.{limitOf}
 use Rattle.decoding.specs.Decoded.{Row}
