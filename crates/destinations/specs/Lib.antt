@@ -1,1 +1,2 @@
 pub mod Destinations
+pub mod Slots

@@ -4,7 +4,7 @@ use mathlib.Core.Path.{_≡_}
 use mathlib.Core.Bool.{Bool, _&&_}
 use mathlib.Core.List.{List, map}
 use lib.ListN.{length, getD, set, take}
-use lib.IntN.{ℤ}
+use lib.IntN.{ℤ, pos}
 use Rattle.kinds.specs.Kinds.{Range, inRange}
 use Rattle.blockfield.specs.Marked.{Lies}
 use Rattle.decoding.specs.Decoded.{blockAt}
@@ -17,6 +17,9 @@ use Rattle.record.specs.Sound.{blockRange, lineAt, every}
 unfoldable pub putAll : List ℤ → ℕ → ℕ → (ℕ → ℤ) → List ℤ
 putAll l a zero g = l
 putAll l a (suc m) g = set (putAll l a m g) (a + m) (g m)
+
+abbrev pub nothing : ℕ → ℤ
+nothing k = pos 0
 
 -- each of m words from an index on is in a range
 abbrev pub runFits : Range → List ℤ → ℕ → ℕ → Bool

@@ -7,7 +7,7 @@ ghost use Rattle.words.specs.Signed.{over, bitOf};
 ghost use Rattle.blocks.specs.Blocks.{ticks};
 ghost use Rattle.record.specs.Places.{phase, done, mark, elapsed, input, analog, flag, analogFlag, output, sizeOf, indexOf, at, word, put, wordsOf, putWords};
 ghost use Rattle.record.specs.Sound.{inScan};
-ghost use Rattle.record.specs.Written.{putAll};
+ghost use Rattle.record.specs.Written.{putAll, nothing};
 use kinds::Ticks;
 use rules::BlockWords;
 
@@ -20,11 +20,7 @@ const MARK: usize = 2;
 
 const ELAPSED: usize = 3;
 
-// The first input, M1; before I1, the first analog input, M1, AM1 and the first block.
-const FIRST_INPUT: usize = 4;
-
-const FIRST_FLAG: usize = 36;
-
+// Before I1, the first analog input, M1, AM1 and block 1.
 const INPUTS: usize = 3;
 
 const ANALOGS: usize = 27;
@@ -35,7 +31,11 @@ const ANALOG_FLAGS: usize = 99;
 
 const BLOCKS: usize = 161;
 
-// Before the words of block 1.
+// I1, M1 and the words of block 1.
+const FIRST_INPUT: usize = 4;
+
+const FIRST_FLAG: usize = 36;
+
 const FIRST_BLOCK: usize = 164;
 
 // ---- one word
@@ -78,6 +78,13 @@ pub fn done_of(rec: &[i32]) -> usize
     words::amount_of(word_at(rec, DONE)) as usize
 }
 
+// Stores the phase.
+pub fn put_phase(rec: &mut [i32], z: i32)
+    ensures { λ r. ⌜ now (rec .exit) ≡ put (now (rec .entry)) phase z ⌝ }
+{
+    put_word(rec, PHASE, z);
+}
+
 // Stores the blocks done.
 pub fn put_done(rec: &mut [i32], d: usize)
     requires { ⌜ d ≤ 400 ⌝ }
@@ -93,11 +100,32 @@ pub fn is_marked(rec: &[i32]) -> bool
     words::bit_of(word_at(rec, MARK))
 }
 
+// Stores the mark.
+pub fn put_mark(rec: &mut [i32], z: i32)
+    ensures { λ r. ⌜ now (rec .exit) ≡ put (now (rec .entry)) mark z ⌝ }
+{
+    put_word(rec, MARK, z);
+}
+
 // e, as the ticks since the last latch.
 pub fn elapsed_of(rec: &[i32]) -> Ticks
     ensures { λ r. ⌜ (r ≡ ticks (over (word (now (rec .entry)) elapsed))) × (r .0 < 2 ^ 31) ⌝ }
 {
     Ticks(words::amount_of(word_at(rec, ELAPSED)))
+}
+
+// Stores e.
+pub fn put_elapsed(rec: &mut [i32], z: i32)
+    ensures { λ r. ⌜ now (rec .exit) ≡ put (now (rec .entry)) elapsed z ⌝ }
+{
+    put_word(rec, ELAPSED, z);
+}
+
+// Stores M8.
+pub fn put_eighth(rec: &mut [i32], z: i32)
+    ensures { λ r. ⌜ now (rec .exit) ≡ put (now (rec .entry)) (flag 8) z ⌝ }
+{
+    put_word(rec, FLAGS + 8, z);
 }
 
 // ---- what a connector may read
@@ -165,4 +193,78 @@ pub fn put_words(rec: &mut [i32], k: usize, w: BlockWords)
     put_word(rec, i, output);
     put_word(rec, i + 1, remembered);
     put_word(rec, i + 2, number);
+}
+
+// ---- words one after the other
+
+// Words stored one after the other, from an index on.
+fn put_run(rec: &mut [i32], a: usize, from: &[i32])
+    requires { ⌜ (a ≤ 2000) × (length (now from) ≤ 2000) ⌝ }
+    ensures { λ r. ⌜ now (rec .exit) ≡ putAll (now (rec .entry)) a (length (now (from .entry))) (at (now (from .entry))) ⌝ }
+{
+    let mut i = 0;
+    while i < from.len() {
+        let z = word_at(from, i);
+        put_word(rec, a + i, z);
+        i += 1;
+    }
+}
+
+// Zeroes m words from an index on.
+fn clear_run(rec: &mut [i32], a: usize, m: usize)
+    requires { ⌜ (a ≤ 2000) × (m ≤ 2000) ⌝ }
+    ensures { λ r. ⌜ now (rec .exit) ≡ putAll (now (rec .entry)) a m nothing ⌝ }
+{
+    let mut i = 0;
+    while i < m {
+        put_word(rec, a + i, 0);
+        i += 1;
+    }
+}
+
+// Stores the inputs, I first, then the analog ones.
+pub fn put_inputs(rec: &mut [i32], inputs: &[i32])
+    requires { ⌜ length (now inputs) ≤ 2000 ⌝ }
+    ensures { λ r. ⌜ now (rec .exit) ≡ putAll (now (rec .entry)) (indexOf (input 1)) (length (now (inputs .entry))) (at (now (inputs .entry))) ⌝ }
+{
+    put_run(rec, FIRST_INPUT, inputs);
+}
+
+// Stores the flags, M first, then AM.
+pub fn put_flags(rec: &mut [i32], from: &[i32])
+    requires { ⌜ length (now from) ≤ 2000 ⌝ }
+    ensures { λ r. ⌜ now (rec .exit) ≡ putAll (now (rec .entry)) (indexOf (flag 1)) (length (now (from .entry))) (at (now (from .entry))) ⌝ }
+{
+    put_run(rec, FIRST_FLAG, from);
+}
+
+// Stores the output words, which stand from 0 on.
+pub fn put_outputs(outs: &mut [i32], from: &[i32])
+    requires { ⌜ length (now from) ≤ 2000 ⌝ }
+    ensures { λ r. ⌜ now (outs .exit) ≡ putAll (now (outs .entry)) 0 (length (now (from .entry))) (at (now (from .entry))) ⌝ }
+{
+    put_run(outs, 0, from);
+}
+
+// Zeroes phase, blocks done, mark and e.
+pub fn clear_head(rec: &mut [i32])
+    ensures { λ r. ⌜ now (rec .exit) ≡ putAll (now (rec .entry)) (indexOf phase) 4 nothing ⌝ }
+{
+    clear_run(rec, PHASE, FIRST_INPUT);
+}
+
+// Zeroes all but the words of blocks.
+pub fn clear_fixed(rec: &mut [i32])
+    ensures { λ r. ⌜ now (rec .exit) ≡ putAll (now (rec .entry)) (indexOf phase) (sizeOf 0) nothing ⌝ }
+{
+    clear_run(rec, PHASE, FIRST_BLOCK);
+}
+
+// Zeroes all.
+pub fn clear_all(rec: &mut [i32])
+    requires { ⌜ length (now rec) ≤ 2000 ⌝ }
+    ensures { λ r. ⌜ now (rec .exit) ≡ putAll (now (rec .entry)) (indexOf phase) (length (now (rec .entry))) nothing ⌝ }
+{
+    let m = rec.len();
+    clear_run(rec, PHASE, m);
 }

@@ -3,19 +3,29 @@ use Prim.Native.Nat.{ℕ, _≤_, _<_}
 use mathlib.Core.Path.{_≡_}
 use mathlib.Core.Bool.{true}
 use mathlib.Core.List.{List}
-use lib.ListN.{length}
+use lib.ListN.{length, getD}
 use lib.IntN.{ℤ}
 use Rattle.kinds.specs.Kinds.{known}
 use Rattle.connectors.specs.Connectors.{Connector, classOf}
-use Rattle.blocks.specs.Blocks.{Fit}
+use Rattle.blockfield.specs.Marked.{Lies}
+use Rattle.blocks.specs.Blocks.{Fit, Sixteen}
+use Rattle.decoding.specs.Decoded.{blockAt}
+use Rattle.lines.specs.Lines.{lineOf}
 use Rattle.lines.specs.declared.Line.{Line}
 use Rattle.record.specs.Places.{sizeOf}
-use Rattle.record.specs.Sound.{lineAt, fitsAt, inScan, atRest}
-use Rattle.steps.specs.Steps.{inputOf}
+use Rattle.record.specs.Sound.{lineAt, sound}
+use Rattle.record.specs.Written.{linesAt, Stand}
+use Rattle.steps.specs.Steps.{inputOf, valuesOf}
+
+-- a class byte and a number as a connector
+abbrev pub connector : ℕ → ℕ → Connector
+connector class number = record { class = class; number = number }
 
 -- the place that a connector reads is one that there is
 pub record Wired (c : Connector) : Type 0 where
   pub small : c .number < 65536
+  -- before I1 stands e, which 16 bits do not hold
+  pub first-input : classOf c ≡ 1 → 1 ≤ c .number
   pub input : classOf c ≡ 1 → c .number ≤ 24
   -- before I1 stands e, which 16 bits do not hold
   pub first-input : classOf c ≡ 1 → 1 ≤ c .number
@@ -33,3 +43,18 @@ pub record Fine (line : Line) : Type 0 where
 pub record AllFine (lines : List Line) : Type 0 where
   pub few : length lines ≤ 400
   pub fine : (k : ℕ) → 1 ≤ k → k ≤ length lines → Fine (lineAt lines k)
+
+-- the block behind the first d of the order stands in the bytes, and can be worked out on a record
+pub record Next (s : List ℕ) (offsets : List ℕ) (d : ℕ) (l : List ℤ) : Type 0 where
+  pub long : length offsets ≡ 400
+  pub low : d < 400
+  pub lies : Lies s (getD offsets d 0)
+  pub fine : Fine (lineOf (blockAt s (getD offsets d 0)))
+  pub values : Sixteen (valuesOf l (lineOf (blockAt s (getD offsets d 0))))
+
+-- n blocks stand in the bytes, and all can be worked out on a record, which is sound
+pub record Runs (s : List ℕ) (n : ℕ) (offsets : List ℕ) (l : List ℤ) : Type 0 where
+  pub stand : Stand s n offsets
+  pub fine : AllFine (linesAt s n offsets)
+  pub long : length l ≡ sizeOf n
+  pub is-sound : sound (linesAt s n offsets) l ≡ true
