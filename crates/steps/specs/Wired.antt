@@ -27,8 +27,6 @@ pub record Wired (c : Connector) : Type 0 where
   -- before I1 stands e, which 16 bits do not hold
   pub first-input : classOf c ≡ 1 → 1 ≤ c .number
   pub input : classOf c ≡ 1 → c .number ≤ 24
-  -- before I1 stands e, which 16 bits do not hold
-  pub first-input : classOf c ≡ 1 → 1 ≤ c .number
   pub flag : classOf c ≡ 4 → c .number ≤ 64
   pub analog : classOf c ≡ 7 → c .number ≤ 8
   pub analogFlag : classOf c ≡ 8 → c .number ≤ 64
