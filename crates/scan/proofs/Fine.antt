@@ -2,7 +2,7 @@
 use Prim.Native.Nat.{ℕ, zero, suc, _+_, _≤_, _<_}
 use native.Mathlib.Nat.{le-of-suc-le-suc}
 use native.Mathlib.Omega.{arith}
-use mathlib.Core.Path.{_≡_, refl, sym, ap, _∙_, subst}
+use mathlib.Core.Path.{_≡_, refl, sym, _∙_}
 use mathlib.Core.Bool.{Bool, true, false}
 use mathlib.Core.List.{List, [], _∷_, map}
 use mathlib.Core.Option.{none}
@@ -11,19 +11,20 @@ use lib.ListN.{length, getD, length-map}
 use borrow.Author.Tests.{ltb-true, ltb-false}
 use Rattle.kinds.specs.Kinds.{kindOf}
 use Rattle.refusals.specs.Limited.{ours}
-use Rattle.connectors.specs.Connectors.{Connector, classOf, least, greatest}
-use Rattle.fields.specs.Fields.{limitOf}
+use Rattle.refusals.proofs.Laws.{ours-modest}
+use Rattle.connectors.specs.Connectors.{Connector, least, greatest}
 use Rattle.decoding.specs.Decoded.{Block, Row, Circuit}
 use Rattle.circuit.specs.Circuit.{verdict, accepted}
 use Rattle.kept.specs.Keeps.{Bytes, Keeps, Allowed, RowKeeps}
-use Rattle.kept.proofs.Lists.{all-map}
+use Rattle.kept.proofs.Lists.{all-both}
 use Rattle.kept.proofs.Exactly.{accepted-exactly}
 use Rattle.lines.specs.Lines.{unused, nth, lineOf, Ready}
 use Rattle.lines.proofs.Ready.{accepted-ready}
-use Rattle.lines.specs.declared.Line.{Line}
 use Rattle.record.specs.Sound.{linesOf, noLine, lineAt}
 use Rattle.steps.specs.Steps.{inputOf}
-use Rattle.steps.specs.Wired.{Wired, Fine, AllFine}
+use Rattle.steps.specs.Wired.{Wired, Fine}
+use Rattle.destinations.specs.Slots.{Aimed}
+use Rattle.destinations.proofs.Decided.{rows-fine}
 use Rattle.scan.specs.Calls.{planOf}
 use Rattle.scan.specs.Fine.{RowFine, FinePlan}
 
@@ -69,8 +70,10 @@ module _ (n : ℕ) (before : List Block) (b : Block) (r : Ready ours n before b)
     where
       d : ℕ
       d = kindOf (b .kind) .digitals
+
       a : ℕ
       a = kindOf (b .kind) .analogs
+
       go : (x y : Bool) → ltb j d ≡ x → ltb j (d + a) ≡ y → Wired (nth (b .inputs) j)
       go true y e f = allowed-wired _ n _ (r .digital j (ltb-true j d e) .allowed)
       go false true e f = allowed-wired _ n _ (r .analog j (ltb-false j d e) (ltb-true j (d + a) f) .allowed)
@@ -92,19 +95,8 @@ line-at (b ∷ blocks) d (suc j) h = line-at blocks d j (le-of-suc-le-suc h)
 
 -- ---- rows
 
-class-within : (class k : ℕ) → 1 ≤ k → k ≤ limitOf ours class → (1 ≤ class) × (class ≤ 4)
-unfolding limitOf
-class-within zero k h m = let z : ⊥ = omega arith in absurd z
-class-within (suc zero) k h m = (omega arith, omega arith)
-class-within (suc (suc zero)) k h m = (omega arith, omega arith)
-class-within (suc (suc (suc zero))) k h m = (omega arith, omega arith)
-class-within (suc (suc (suc (suc zero)))) k h m = (omega arith, omega arith)
-class-within (suc (suc (suc (suc (suc class))))) k h m = let z : ⊥ = omega arith in absurd z
-
-row-fine : (n : ℕ) (r : Row) → RowKeeps ours n r → RowFine r
-row-fine n r k =
-    let class = class-within (r .class) (r .number) (k .low) (k .high) in
-    record { class-low = class .0; class-high = class .1; low = k .low; high = k .high; wired = allowed-wired _ n (r .from) (k .from) }
+row-fine : (n : ℕ) (r : Row) → Aimed (r .class) (r .number) → RowKeeps ours n r → RowFine r
+row-fine n r aimed k = record { aimed = aimed; wired = allowed-wired _ n (r .from) (k .from) }
 
 -- ---- the plan
 
@@ -132,5 +124,8 @@ module _ (s : List ℕ) (small : Bytes s) (c : Circuit) (e : verdict s ≡ accep
   accepted-fine =
       record {
         lines = record { few = omega (arith, lines-length, keeps .few); fine = line-fine };
-        rows = all-map (RowKeeps ours (c .n)) RowFine (row-fine (c .n)) (c .rows) (keeps .rows);
+        rows =
+            all-both (λ (r : Row). Aimed (r .class) (r .number)) (RowKeeps ours (c .n)) RowFine (row-fine (c .n)) (c .rows)
+            (rows-fine ours (c .n) (c .rows) ours-modest (keeps .rows))
+            (keeps .rows);
       }

@@ -1,2 +1,5 @@
 pub mod Accepts
 pub mod Fine
+pub mod Fits
+pub mod Turns
+pub mod Theorems

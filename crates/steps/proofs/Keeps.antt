@@ -26,6 +26,7 @@ use Rattle.record.proofs.Located.{Spot, is-phase, is-done, is-mark, is-elapsed,
 use Rattle.record.proofs.Held.{Sound, word-in}
 use Rattle.steps.specs.Steps.{sourceOf, inputOf, valueFrom, bitsOf, valuesOf, becomes, step, countFrom, order, along, stepsFrom}
 use Rattle.steps.specs.Wired.{Wired, Fine, AllFine}
+use Rattle.steps.proofs.Sources.{reads-input, reads-flag, reads-block, reads-analog, reads-analogFlag, reads-analog-block}
 
 -- ---- what a connector reads, by its class
 
@@ -41,15 +42,15 @@ module _ (c : Connector) where
   by-class : (k : ℕ) → classOf c ≡ k → Connects c
   unfolding sourceOf
   by-class zero e = to-nothing (rw e)
-  by-class (suc zero) e = to-input e (rw e)
+  by-class (suc zero) e = to-input e (reads-input c e)
   by-class (suc (suc zero)) e = to-nothing (rw e)
   by-class (suc (suc (suc zero))) e = to-nothing (rw e)
-  by-class (suc (suc (suc (suc zero)))) e = to-flag e (rw e)
+  by-class (suc (suc (suc (suc zero)))) e = to-flag e (reads-flag c e)
   by-class (suc (suc (suc (suc (suc zero))))) e = to-nothing (rw e)
-  by-class (suc (suc (suc (suc (suc (suc zero)))))) e = to-block (rw e)
-  by-class (suc (suc (suc (suc (suc (suc (suc zero))))))) e = to-analog e (rw e)
-  by-class (suc (suc (suc (suc (suc (suc (suc (suc zero)))))))) e = to-analogFlag e (rw e)
-  by-class (suc (suc (suc (suc (suc (suc (suc (suc (suc zero))))))))) e = to-block (rw e)
+  by-class (suc (suc (suc (suc (suc (suc zero)))))) e = to-block (reads-block c e)
+  by-class (suc (suc (suc (suc (suc (suc (suc zero))))))) e = to-analog e (reads-analog c e)
+  by-class (suc (suc (suc (suc (suc (suc (suc (suc zero)))))))) e = to-analogFlag e (reads-analogFlag c e)
+  by-class (suc (suc (suc (suc (suc (suc (suc (suc (suc zero))))))))) e = to-block (reads-analog-block c e)
   by-class (suc (suc (suc (suc (suc (suc (suc (suc (suc (suc k)))))))))) e = to-nothing (rw e)
 
   pub connects : Connects c
