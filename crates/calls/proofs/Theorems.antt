@@ -17,12 +17,12 @@ use Rattle.record.specs.Places.{sizeOf}
 use Rattle.record.specs.Sound.{linesOf, inScan, sound}
 use Rattle.record.proofs.Held.{Sound, told, tested}
 use Rattle.steps.specs.Steps.{toGo}
-use Rattle.scan.specs.Calls.{Call, coldStart, warmStart, latch, run, publish, Plan, planOf, refusal, leaves, answerOn, recordOn, answerAfter, recordAfter, outputsAfter, outputsOn}
-use Rattle.scan.specs.Fine.{FinePlan}
-use Rattle.scan.proofs.Accepts.{cold-told, latch-told, run-told, run-right, publish-right, record-accepted, record-refused, answer-number, either-way}
-use Rattle.scan.proofs.Fine.{accepted-fine}
-use Rattle.scan.proofs.Fits.{cold-sound, warm-sound, reading, latch-sound, publish-sound}
-use Rattle.scan.proofs.Turns.{turned-scan, turned-keeps, turned-all}
+use Rattle.calls.specs.Calls.{Call, coldStart, warmStart, latch, run, publish, Plan, planOf, refusal, leaves, answerOn, recordOn, answerAfter, recordAfter, outputsAfter, outputsOn}
+use Rattle.calls.specs.Fine.{FinePlan}
+use Rattle.calls.proofs.Accepts.{cold-told, latch-told, run-told, run-right, publish-right, record-accepted, record-refused, answer-number, either-way}
+use Rattle.calls.proofs.Fine.{accepted-fine}
+use Rattle.calls.proofs.Fits.{cold-sound, warm-sound, reading, latch-sound, publish-sound}
+use Rattle.calls.proofs.Turns.{turned-scan, turned-keeps, turned-all}
 
 -- a record of the right length that is sound
 abbrev pub Good : List Line → List ℤ → Type 0

@@ -25,8 +25,8 @@ use Rattle.record.proofs.Held.{Sound}
 use Rattle.steps.specs.Steps.{bitFrom}
 use Rattle.steps.proofs.Keeps.{value-sixteen}
 use Rattle.destinations.specs.Destinations.{M, AM, carried, destined, publishWord}
-use Rattle.scan.specs.Calls.{fresh, coldWord, isKept, warmWord, latchWord, isReading}
-use Rattle.scan.specs.Fine.{RowFine}
+use Rattle.calls.specs.Calls.{fresh, coldWord, isKept, warmWord, latchWord, isReading}
+use Rattle.calls.specs.Fine.{RowFine}
 
 either-in : (r : Range) (b : Bool) {y z : ℤ} → (b ≡ true → In r y) → In r z → In r (cond b y z)
 either-in r true h g = h refl

@@ -25,8 +25,8 @@ use Rattle.steps.specs.Steps.{inputOf}
 use Rattle.steps.specs.Wired.{Wired, Fine}
 use Rattle.destinations.specs.Slots.{Aimed}
 use Rattle.destinations.proofs.Decided.{rows-fine}
-use Rattle.scan.specs.Calls.{planOf}
-use Rattle.scan.specs.Fine.{RowFine, FinePlan}
+use Rattle.calls.specs.Calls.{planOf}
+use Rattle.calls.specs.Fine.{RowFine, FinePlan}
 
 -- ---- connectors
 

@@ -3,7 +3,7 @@ use Rattle.decoding.specs.Decoded.{Row}
 use Rattle.kept.specs.Keeps.{All}
 use Rattle.steps.specs.Wired.{Wired, AllFine}
 use Rattle.destinations.specs.Slots.{Aimed}
-use Rattle.scan.specs.Calls.{Plan}
+use Rattle.calls.specs.Calls.{Plan}
 
 -- a row to a destination that there is, whose connector reads a place that there is
 pub record RowFine (r : Row) : Type 0 where

@@ -17,7 +17,7 @@ use Rattle.record.specs.Places.{sizeOf}
 use Rattle.record.specs.Sound.{inScan, sound}
 use Rattle.record.proofs.Held.{Sound, told, tested}
 use Rattle.steps.specs.Steps.{toGo}
-use Rattle.scan.specs.Calls.{Call, coldStart, warmStart, latch, run, publish, Plan, wrongLength, notSound, isReading, faults, refusal, gives, leaves, shows, answerOn, recordOn, outputsOn}
+use Rattle.calls.specs.Calls.{Call, coldStart, warmStart, latch, run, publish, Plan, wrongLength, notSound, isReading, faults, refusal, gives, leaves, shows, answerOn, recordOn, outputsOn}
 
 -- ---- the numbers
 
