@@ -1,0 +1,55 @@
+-- `scan::warm_words` meets its contract: the blocks that are not retentive, the words before them, mark and M8. Assumes nothing.
+use mathlib.Core.Path.{_∙_, ap}
+use mathlib.Core.List.{List}
+use lib.IntN.{ℤ, pos}
+use Rattle.record.specs.Places.{mark, flag, phase, sizeOf, indexOf, put}
+use Rattle.record.specs.Written.{putAll, nothing}
+use Rattle.scan.proofs.Effects.{warm-is}
+use borrow.Author.Needs.{needs}
+use Rattle.scan.proofs.warm_words.Statement.{statement}
+use Rattle.scan.proofs.warm_words.Tie as tie
+use Rattle.scan.proofs.warm_words.Reads as reads
+use Rattle.scan.proofs.warm_words.Lts as lts
+use Rattle.record.proofs.clear_fixed.Reads as clear-fixed-reads
+use Rattle.record.proofs.put_eighth.Reads as put-eighth-reads
+use Rattle.record.proofs.put_mark.Reads as put-mark-reads
+use Rattle.scan.proofs.clear_blocks.Reads as clear-blocks-reads
+
+-- src/lib.rt:69:5
+clear-blocks-requires : tie.Need-clear-blocks-requires
+clear-blocks-requires c κs = search needs
+
+-- src/lib.rt:70:5
+clear-fixed-requires : tie.Need-clear-fixed-requires
+clear-fixed-requires c κs = search needs
+
+-- src/lib.rt:71:5
+put-mark-requires : tie.Need-put-mark-requires
+put-mark-requires c κs = search needs
+
+-- src/lib.rt:72:5
+put-eighth-requires : tie.Need-put-eighth-requires
+put-eighth-requires c κs = search needs
+
+-- src/lib.rt:65:1
+same-length : tie.Need-same-length
+same-length c = search needs
+
+-- src/lib.rt:65:1
+returns : tie.Need-returns
+returns c =
+    let cleared = c .before .before .before .before .before .before .before .clear-fixed .ensures ∙ ap (λ (l : List ℤ). putAll l (indexOf phase) (sizeOf 0) nothing) (c .before .before .before .before .before .before .before .before .before .before .clear-blocks .ensures) in
+    c .before .put-eighth .ensures
+    ∙ ap (λ (l : List ℤ). put l (flag 8) (pos 1)) (c .before .before .before .before .put-mark .ensures ∙ ap (λ (l : List ℤ). put l mark (pos 1)) cleared)
+    ∙ warm-is (c .before .before .before .before .before .before .before .before .before .before .before .before .before .args .bytes .now) (c .before .before .before .before .before .before .before .before .before .before .before .before .before .args .n) (c .before .before .before .before .before .before .before .before .before .before .before .before .before .args .offsets .now) (c .before .before .before .before .before .before .before .before .before .before .before .before .before .pre .1) (c .before .before .before .before .before .before .before .before .before .before .before .before .before .args .rec .now) (c .before .before .before .before .before .before .before .before .before .before .before .before .before .pre .2)
+
+pub warm-words-spec : {M : Type 1} → statement M
+warm-words-spec =
+    tie.close
+    (tie.spec
+    clear-blocks-requires
+    clear-fixed-requires
+    put-mark-requires
+    put-eighth-requires
+    same-length
+    returns)
