@@ -4,11 +4,13 @@ ghost use Prim.Native.Nat.{_+_, _*_, _≤_, _<_};
 ghost use lib.ListN.{length};
 ghost use Rattle.kinds.specs.Table.{kindsTable};
 ghost use Rattle.connectors.specs.Connectors.{connectorsAt};
+ghost use Rattle.blockfield.specs.BlockField.{kindAt};
 ghost use Rattle.blockfield.specs.Marked.{Lies};
 ghost use Rattle.decoding.specs.Decoded.{blockAt};
 ghost use Rattle.lines.specs.Lines.{nth, classesOf, numbersOf, lineOf};
 use blocks::Prepared;
 use kinds::KindTable;
+use kinds::Ticks;
 
 // Kind, retentive or not, class bytes and numbers of four connectors (0 where there is none), parameters made ready.
 pub struct Line {
@@ -67,12 +69,37 @@ fn numbers_at(bytes: &[u8], from: usize, count: usize) -> [usize; 4]
     ]
 }
 
+// The kind of the block at a place.
+pub fn kind_at(bytes: &[u8], at: usize) -> usize
+    requires { ⌜ Lies (now bytes) at ⌝ }
+    ensures { λ r. ⌜ (r ≡ kindAt (now (bytes .entry)) at) × (r < 17) ⌝ }
+{
+    words::byte_at(bytes, at + 3)
+}
+
+// The ticks that it sets, read from its timebase and its T alone.
+pub fn time_at(kinds: &KindTable, bytes: &[u8], at: usize) -> Ticks
+    requires { ⌜ (now kinds ≡ kindsTable) × Lies (now bytes) at ⌝ }
+    ensures { λ r. ⌜ r ≡ lineOf (blockAt (now (bytes .entry)) at) .prepared .time ⌝ }
+{
+    let kind = kind_at(bytes, at);
+    if kinds::times(kinds, kind) == 0 {
+        return Ticks(0);
+    }
+    let count = kinds::digital_inputs(kinds, kind) + kinds::analog_inputs(kinds, kind);
+    let base = at + 5 + 3 * count;
+    kinds::ticks_of(kinds::setting_of(
+        words::signed_four_at(bytes, base),
+        words::signed_four_at(bytes, base + 4),
+    ))
+}
+
 // The line of the block at a place.
 pub fn line_at(kinds: &KindTable, bytes: &[u8], at: usize) -> Line
     requires { ⌜ (now kinds ≡ kindsTable) × Lies (now bytes) at ⌝ }
     ensures { λ r. ⌜ r ≡ lineOf (blockAt (now (bytes .entry)) at) ⌝ }
 {
-    let kind = words::byte_at(bytes, at + 3);
+    let kind = kind_at(bytes, at);
     let retentive = words::byte_at(bytes, at + 4) == 1;
     let count = kinds::digital_inputs(kinds, kind) + kinds::analog_inputs(kinds, kind);
     let from = at + 5;

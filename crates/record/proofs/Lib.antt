@@ -1,3 +1,4 @@
 pub mod Located
 pub mod Runs
+pub mod Split
 pub mod Held

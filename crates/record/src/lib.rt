@@ -4,10 +4,16 @@ ghost use Prim.Native.Nat.{_+_, _≤_, _<_, _^_};
 ghost use lib.ListN.{length, set};
 ghost use lib.IntN.{pos};
 ghost use Rattle.words.specs.Signed.{over, bitOf};
+ghost use Rattle.kinds.specs.Kinds.{_to_, inRange};
+ghost use Rattle.kinds.specs.Table.{kindsTable};
 ghost use Rattle.blocks.specs.Blocks.{ticks};
+ghost use Rattle.blockfield.specs.Marked.{Lies};
+ghost use Rattle.decoding.specs.Decoded.{blockAt};
+ghost use Rattle.lines.specs.Lines.{lineOf};
 ghost use Rattle.record.specs.Places.{phase, done, mark, elapsed, input, analog, flag, analogFlag, output, sizeOf, indexOf, at, word, put, wordsOf, putWords};
-ghost use Rattle.record.specs.Sound.{inScan};
-ghost use Rattle.record.specs.Written.{putAll, nothing};
+ghost use Rattle.record.specs.Sound.{inScan, atRest, sound};
+ghost use Rattle.record.specs.Written.{putAll, nothing, runFits, headFits, fixedFit, blockFits, blocksFit, linesAt, Stand};
+use kinds::KindTable;
 use kinds::Ticks;
 use rules::BlockWords;
 
@@ -31,10 +37,14 @@ const ANALOG_FLAGS: usize = 99;
 
 const BLOCKS: usize = 161;
 
-// I1, M1 and the words of block 1.
+// I1, the first analog input, M1, AM1 and the words of block 1.
 const FIRST_INPUT: usize = 4;
 
+const FIRST_ANALOG: usize = 28;
+
 const FIRST_FLAG: usize = 36;
+
+const FIRST_ANALOG_FLAG: usize = 100;
 
 const FIRST_BLOCK: usize = 164;
 
@@ -267,4 +277,114 @@ pub fn clear_all(rec: &mut [i32])
 {
     let m = rec.len();
     clear_run(rec, PHASE, m);
+}
+
+// ---- whether a record is sound
+
+// Whether the word at an index lies between two ends.
+fn word_fits(rec: &[i32], i: usize, least: i32, greatest: i32) -> bool
+    ensures { λ r. ⌜ r ≡ inRange (least to greatest) (at (now (rec .entry)) i) ⌝ }
+{
+    words::within(word_at(rec, i), least, greatest)
+}
+
+// Whether each of m words from an index on does.
+pub fn run_fits(rec: &[i32], a: usize, m: usize, least: i32, greatest: i32) -> bool
+    requires { ⌜ (a ≤ 2000) × (m ≤ 2000) ⌝ }
+    ensures { λ r. ⌜ r ≡ runFits (least to greatest) (now (rec .entry)) a m ⌝ }
+{
+    let mut ok = true;
+    let mut i = 0;
+    while i < m {
+        ok = words::both(ok, word_fits(rec, a + i, least, greatest));
+        i += 1;
+    }
+    ok
+}
+
+// Whether phase, blocks done, mark and e are in their ranges, for n blocks.
+fn head_fits(rec: &[i32], n: usize) -> bool
+    requires { ⌜ n ≤ 400 ⌝ }
+    ensures { λ r. ⌜ r ≡ headFits n (now (rec .entry)) ⌝ }
+{
+    let most = words::word_of_count(n as u32);
+    let phase = word_fits(rec, PHASE, 0, 1);
+    let done = word_fits(rec, DONE, 0, most);
+    let mark = word_fits(rec, MARK, 0, 1);
+    let elapsed = word_fits(rec, ELAPSED, 0, 65535);
+    words::both(words::both(words::both(phase, done), mark), elapsed)
+}
+
+// Whether all words but those of blocks are in their ranges, for n blocks.
+fn fixed_fit(rec: &[i32], n: usize) -> bool
+    requires { ⌜ n ≤ 400 ⌝ }
+    ensures { λ r. ⌜ r ≡ fixedFit n (now (rec .entry)) ⌝ }
+{
+    let head = head_fits(rec, n);
+    let inputs = run_fits(rec, FIRST_INPUT, 24, 0, 1);
+    let analogs = run_fits(rec, FIRST_ANALOG, 8, 0, 1000);
+    let flags = run_fits(rec, FIRST_FLAG, 64, 0, 1);
+    let analog_flags = run_fits(rec, FIRST_ANALOG_FLAG, 64, -32768, 32767);
+    words::both(
+        words::both(words::both(words::both(head, inputs), analogs), flags),
+        analog_flags,
+    )
+}
+
+// Whether the three words of block k, which stands at a place of the bytes, are in their ranges.
+fn block_fits(kinds: &KindTable, bytes: &[u8], at: usize, rec: &[i32], k: usize) -> bool
+    requires { ⌜ (now kinds ≡ kindsTable) × Lies (now bytes) at × (k ≤ 400) ⌝ }
+    ensures { λ r. ⌜ r ≡ blockFits (lineOf (blockAt (now (bytes .entry)) at)) (now (rec .entry)) k ⌝ }
+{
+    let kind = lines::kind_at(bytes, at);
+    let time = lines::time_at(kinds, bytes, at);
+    let i = BLOCKS + 3 * k;
+    let output = kinds::output_fits(kinds, kind, word_at(rec, i));
+    let remembered = kinds::remembered_fits(kinds, kind, word_at(rec, i + 1));
+    let number = kinds::number_fits(kinds, kind, time, word_at(rec, i + 2));
+    words::both(output, words::both(remembered, number))
+}
+
+// Whether those of n blocks are.
+fn blocks_fit(
+    kinds: &KindTable,
+    bytes: &[u8],
+    offsets: &[usize; 400],
+    n: usize,
+    rec: &[i32],
+) -> bool
+    requires { ⌜ (now kinds ≡ kindsTable) × Stand (now bytes) n (now offsets) ⌝ }
+    ensures { λ r. ⌜ r ≡ blocksFit (now (bytes .entry)) n (now (offsets .entry)) (now (rec .entry)) ⌝ }
+{
+    let mut ok = true;
+    let mut i = 0;
+    while i < n {
+        ok = words::both(ok, block_fits(kinds, bytes, offsets[i], rec, i + 1));
+        i += 1;
+    }
+    ok
+}
+
+// Whether blocks done and e are 0.
+fn at_rest(rec: &[i32]) -> bool
+    ensures { λ r. ⌜ r ≡ atRest (now (rec .entry)) ⌝ }
+{
+    words::both(word_fits(rec, DONE, 0, 0), word_fits(rec, ELAPSED, 0, 0))
+}
+
+// Whether a record is sound for the blocks that stand at some places of the bytes.
+pub fn is_sound(
+    kinds: &KindTable,
+    bytes: &[u8],
+    offsets: &[usize; 400],
+    n: usize,
+    rec: &[i32],
+) -> bool
+    requires { ⌜ (now kinds ≡ kindsTable) × Stand (now bytes) n (now offsets) ⌝ }
+    ensures { λ r. ⌜ r ≡ sound (linesAt (now (bytes .entry)) n (now (offsets .entry))) (now (rec .entry)) ⌝ }
+{
+    let fixed = fixed_fit(rec, n);
+    let blocks = blocks_fit(kinds, bytes, offsets, n, rec);
+    let rest = words::either(in_scan(rec), at_rest(rec));
+    words::both(words::both(fixed, blocks), rest)
 }
