@@ -105,11 +105,11 @@ fine-from s at (suc count) (suc j) h b =
     let e : at + 8 + 8 * j ≡ at + 8 * suc j = omega arith in
     rw e at (fine-from s (at + 8) count j (h .1) (omega arith))
 
-module _ (s : List ℕ) (start count : ℕ) (l : List ℤ) where
-  -- row j
-  pub row-fine : Rows s start count → (j : ℕ) → j < count → RowFine (rowAt s (start + 8 * j))
-  row-fine rows j b = fine-from s start count j (rows .fine) b
+-- row j, from 0
+pub row-fine : (s : List ℕ) (start count : ℕ) → Rows s start count → (j : ℕ) → j < count → RowFine (rowAt s (start + 8 * j))
+row-fine s start count rows j b = fine-from s start count j (rows .fine) b
 
+module _ (s : List ℕ) (start count : ℕ) (l : List ℤ) where
   -- the rows from the one at left on
   abbrev pub filledFrom : ℕ → List ℤ
   filledFrom left = filled (rowsAt s (start + 8 * left) (count - left)) l
@@ -132,29 +132,26 @@ module _ (s : List ℕ) (start count : ℕ) (l : List ℤ) where
 -- ---- by index
 
 module _ (rows : List Row) (l : List ℤ) (fine : All RowFine rows) (k : ℕ) where
+  slot-word : (class : ℕ) → Aimed class (1 + k) → at (filled rows l) (base class + k) ≡ destined rows l class (1 + k)
+  slot-word class aim =
+      let e : 1 + k - 1 ≡ k = omega arith in
+      rw e at (filled-at l class (1 + k) aim rows fine)
+
   pub filled-q : k < 20 → at (filled rows l) k ≡ destined rows l Q (1 + k)
   unfolding base
-  filled-q b =
-      let e : 0 + (1 + k - 1) ≡ k = omega arith in
-      rw e at (filled-at l Q (1 + k) (at-q refl (omega arith) (omega arith)) rows fine)
+  filled-q b = rw (zero-add k) at (slot-word Q (at-q refl (omega arith) (omega arith)))
 
   pub filled-aq : k < 8 → at (filled rows l) (20 + k) ≡ destined rows l AQ (1 + k)
   unfolding base
-  filled-aq b =
-      let e : 1 + k - 1 ≡ k = omega arith in
-      rw e at (filled-at l AQ (1 + k) (at-aq refl (omega arith) (omega arith)) rows fine)
+  filled-aq b = slot-word AQ (at-aq refl (omega arith) (omega arith))
 
   pub filled-m : k < 64 → at (filled rows l) (28 + k) ≡ destined rows l M (1 + k)
   unfolding base
-  filled-m b =
-      let e : 1 + k - 1 ≡ k = omega arith in
-      rw e at (filled-at l M (1 + k) (at-m refl (omega arith) (omega arith)) rows fine)
+  filled-m b = slot-word M (at-m refl (omega arith) (omega arith))
 
   pub filled-am : k < 64 → at (filled rows l) (92 + k) ≡ destined rows l AM (1 + k)
   unfolding base
-  filled-am b =
-      let e : 1 + k - 1 ≡ k = omega arith in
-      rw e at (filled-at l AM (1 + k) (at-am refl (omega arith) (omega arith)) rows fine)
+  filled-am b = slot-word AM (at-am refl (omega arith) (omega arith))
 
 -- ---- a part of the slots
 

@@ -13,7 +13,7 @@ use Rattle.words.specs.Signed.{bitOf}
 use Rattle.decoding.specs.Decoded.{Row}
 use Rattle.kept.specs.Keeps.{All}
 use Rattle.record.specs.Places.{phase, mark, flag, indexOf, placeOf, at, word, put, change}
-use Rattle.record.specs.Written.{putAll}
+use Rattle.record.specs.Written.{putAll, nothing}
 use Rattle.record.proofs.Located.{Spot, is-phase, is-done, is-mark, is-elapsed, is-input, is-analog, is-flag, is-analogFlag, is-block, is-change}
 use Rattle.record.proofs.Runs.{put-all-length, put-all-away, put-all-in}
 use Rattle.destinations.specs.Destinations.{M, AM, destined, publishWord}
@@ -25,7 +25,7 @@ abbrev pub cleared : Bool → List ℤ → List ℤ
 cleared marked l = cond marked (put l (flag 8) (pos 0)) l
 
 abbrev pub headless : List ℤ → List ℤ
-headless l = putAll l (indexOf phase) 4 (λ k. pos 0)
+headless l = putAll l (indexOf phase) 4 nothing
 
 -- ---- M8 and the head, in any record
 
@@ -45,11 +45,11 @@ cleared-eighth false l h = refl
 
 head-zero : (l : List ℤ) (i : ℕ) → i < 4 → 4 ≤ length l → at (headless l) i ≡ pos 0
 unfolding indexOf
-head-zero l i b h = put-all-in l 0 4 (λ k. pos 0) i (omega arith) b (omega arith)
+head-zero l i b h = put-all-in l 0 4 nothing i (omega arith) b (omega arith)
 
 head-away : (l : List ℤ) (i : ℕ) → 4 ≤ i → at (headless l) i ≡ at l i
 unfolding indexOf
-head-away l i h = put-all-away l 0 4 (λ k. pos 0) i (λ k b e. omega arith)
+head-away l i h = put-all-away l 0 4 nothing i (λ k b e. omega arith)
 
 -- ---- the whole
 
@@ -113,4 +113,4 @@ module _ (rows : List Row) (l : List ℤ) (fine : All RowFine rows) (long : 164 
 
   pub published : headless (cleared (bitOf (word l mark)) (putAll l (indexOf (flag 1)) 128 (at from))) ≡ change (publishWord rows l) l
   published =
-      is-change (publishWord rows l) l (headless l2) (put-all-length l2 (indexOf phase) 4 (λ k. pos 0) ∙ length-2) publish-at
+      is-change (publishWord rows l) l (headless l2) (put-all-length l2 (indexOf phase) 4 nothing ∙ length-2) publish-at

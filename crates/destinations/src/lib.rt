@@ -17,6 +17,7 @@ const GREATEST_DIGITAL: usize = 2;
 // Slots, one for each destination: Q, AQ, then the flags as they stand in a record, M and AM.
 const SLOTS: usize = 156;
 
+// Those of the outputs, Q and AQ.
 const OUTPUTS: usize = 28;
 
 // Seven bits for each destination class, 4 to 0: the slots before its own, 92, 20, 28, 0, 0.

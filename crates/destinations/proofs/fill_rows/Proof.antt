@@ -43,7 +43,7 @@ fill-row-requires c κs =
     let rows = c .before .before .before .before .pre .0 in
     let there = rows .there in (
       omega arith,
-      row-fine (a .bytes .now) (a .start) (a .count) (a .rec .now) rows (here .left - 1) (omega arith),
+      row-fine (a .bytes .now) (a .start) (a .count) rows (here .left - 1) (omega arith),
       ap length (here .inv .1) ∙ filled-length _ (a .rec .now),
     )
 

@@ -82,16 +82,21 @@ same-length-2 c = search needs
 returns : tie.Need-returns
 returns c =
     let start = c .before .before .before .before .before .before .before .before .before .before .before .before .before .before .before .before .before .before .before .before .before .before .before in
+    let marked = c .before .before .before .before .before .before .before .before .before .before .before .before .before .before .before .before .before .before .before .before .is-marked in
+    let fill = c .before .before .before .before .before .before .before .before .before .before .before .before .before .before .before .before .before .fill-rows in
+    let shows = c .before .before .before .before .before .before .before .before .before .before .before .before .put-outputs in
+    let stores = c .before .before .before .before .before .before .before .put-flags in
+    let eighth = c .before .before .before .before .clear-eighth in
+    let head = c .before .clear-head in
     let rows = rowsAt (start .args .bytes .now) (start .args .start) (start .args .count) in
     let l = start .args .rec .now in
     let fine = start .pre .0 .fine in
-    let fill = c .before .before .before .before .before .before .before .before .before .before .before .before .before .before .before .before .before .fill-rows in
     let slots = fill .last .1 .1 .1 .1 .0 in
     let outputs = part-of rows l slots 0 28 (fill .ensures) (omega arith) in
     let flags = part-of rows l slots 28 128 (fill .ensures) (omega arith) in (
-      rw (← published rows l fine (start .pre .1) (take 128 (drop 28 slots)) flags, ← c .before .before .before .before .before .before .before .before .before .before .before .before .before .before .before .before .before .before .before .before .is-marked .ensures, ← rw (flags .long) at (c .before .before .before .before .before .before .before .put-flags .ensures))
-          (c .before .clear-head .ensures ∙ ap headless (c .before .before .before .before .clear-eighth .ensures)),
-      rw (← outputs-are rows l fine (start .args .outs .now) (take 28 (drop 0 slots)) (start .pre .2) outputs) (rw (outputs .long) at (c .before .before .before .before .before .before .before .before .before .before .before .before .put-outputs .ensures)),
+      rw (← published rows l fine (start .pre .1) (take 128 (drop 28 slots)) flags, ← marked .ensures, ← rw (flags .long) at (stores .ensures))
+          (head .ensures ∙ ap headless (eighth .ensures)),
+      rw (← outputs-are rows l fine (start .args .outs .now) (take 28 (drop 0 slots)) (start .pre .2) outputs) (rw (outputs .long) at (shows .ensures)),
     )
 
 pub publish-words-spec : {M : Type 1} → statement M
