@@ -204,6 +204,7 @@ module _ (limits : Limits) (s : List ℕ) (at : ℕ) (seen : Seen) (w : Reached 
               blocks = q ∙ w .holds .blocks;
               rows = w .holds .rows;
               few = w .sound .few;
+              long = w .holds .offsets-long;
               there = ap (λ (k : ℕ). map (blockAt s) (take k (seen .offsets))) q ∙ w .holds .offsets;
               lie = λ k l. w .holds .lie k (omega (arith, q));
               rows-there = w .holds .rows-there;

@@ -24,6 +24,7 @@ pub record Accepts (limits : Limits) (s : List ℕ) (head : Head) (offsets : Lis
   pub blocks : head .n ≡ length (circuit .blocks)
   pub rows : head .rows ≡ length (circuit .rows)
   pub few : head .n ≤ 400
+  pub long : length offsets ≡ 400
   pub there : map (blockAt s) (take (head .n) offsets) ≡ map bare (circuit .blocks)
   pub lie : (k : ℕ) → k < head .n → Lies s (getD offsets k 0)
   pub rows-there : rowsAt s (head .start) (head .rows) ≡ circuit .rows

@@ -7,7 +7,7 @@ use mathlib.Core.List.{List, [], _∷_, map}
 use lib.Dec.{eqb}
 use lib.ListN.{length, take}
 use lib.IntN.{ℤ}
-use borrow.Author.Tests.{eq-eqb, ne-eqb}
+use borrow.Author.Tests.{eqb-true}
 use Rattle.refusals.specs.Limited.{ours}
 use Rattle.refusals.specs.Faults.{_when_, lowest}
 use Rattle.refusals.specs.Answers.{refusedAt}
@@ -122,17 +122,18 @@ module _ (s : List ℕ) (head : Head) (offsets : List ℕ) (a : Accepts ours s h
   plan-lines =
       sym (map-twice (blockAt s) lineOf (take (head .n) offsets)) ∙ ap (map lineOf) (a .there) ∙ same-line (a .circuit .blocks)
 
-  pub stands : length offsets ≡ 400 → Stand s (head .n) offsets
-  stands long = record { few = a .few; long = long; lie = a .lie }
+  pub stands : Stand s (head .n) offsets
+  stands = record { few = a .few; long = a .long; lie = a .lie }
 
   -- the numbers 20 and 21
-  pub record-told : (l : List ℤ) (x : Call) → asksSound x ≡ true → (k : ℕ) → (k ≡ 0 → ⊥) → length offsets ≡ 400
+  pub record-told : (l : List ℤ) (x : Call) → asksSound x ≡ true → (k : ℕ) → (k ≡ 0 → ⊥)
       → k ≡ lowest (20 when not (eqb (length l) (sizeOf (head .n))) ∷ 21 when not (sound (linesAt s (head .n) offsets) l) ∷ []) → Refuses s x l k 0
-  record-told l x asks k ne long e =
+  record-told l x asks k ne e =
       told-number s (a .circuit) (a .is) x l k ne (by (eqb (length l) (sizeOf (head .n))) (sound (linesAt s (head .n) offsets) l) refl refl)
     where
       same : length (linesOf (a .circuit)) ≡ head .n
-      same = ap length (sym plan-lines) ∙ lines-length s (head .n) offsets (stands long)
+      same = ap length (sym plan-lines) ∙ lines-length s (head .n) offsets stands
+
       by : (t u : Bool) → eqb (length l) (sizeOf (head .n)) ≡ t → sound (linesAt s (head .n) offsets) l ≡ u → refusal (planOf (a .circuit)) x l ≡ k
       by false u f g =
           twenty (planOf (a .circuit)) l x (ap (λ (n : ℕ). eqb (length l) (sizeOf n)) same ∙ f) ∙ sym (e ∙ ap (λ (t : Bool). lowest (20 when not t ∷ 21 when not (sound (linesAt s (head .n) offsets) l) ∷ [])) f)
@@ -142,8 +143,8 @@ module _ (s : List ℕ) (head : Head) (offsets : List ℕ) (a : Accepts ours s h
       by true true f g = absurd (ne (e ∙ rw (f, g)))
 
   -- neither
-  pub record-right : (l : List ℤ) → Bytes s → length offsets ≡ 400 → length l ≡ sizeOf (head .n) → sound (linesAt s (head .n) offsets) l ≡ true → Opened s l head offsets
-  record-right l small long fits ok =
+  pub record-right : (l : List ℤ) → Bytes s → length l ≡ sizeOf (head .n) → sound (linesAt s (head .n) offsets) l ≡ true → Opened s l head offsets
+  record-right l small fits ok =
       record {
         circuit = a .circuit;
         is = a .is;
@@ -151,10 +152,33 @@ module _ (s : List ℕ) (head : Head) (offsets : List ℕ) (a : Accepts ours s h
         rows = a .rows-there;
         runs =
             record {
-              stand = stands long;
+              stand = stands;
               fine = subst AllFine (sym plan-lines) (accepted-fine s small (a .circuit) (a .is) .lines);
               long = fits;
               is-sound = ok;
             };
         shown = accepted-rows ours s head offsets ours-modest small a;
       }
+
+  -- the record's number, whatever it is
+  pub record-judged : (l : List ℤ) → Bytes s → (k : ℕ)
+      → k ≡ lowest (20 when not (eqb (length l) (sizeOf (head .n))) ∷ 21 when not (sound (linesAt s (head .n) offsets) l) ∷ [])
+      → Opens s l (record { number = k; place = 0; head = head }) offsets
+  record-judged l small k e =
+      record {
+        refuses = λ ne x asks. record-told l x asks k ne e;
+        accepts = λ z. by (eqb (length l) (sizeOf (head .n))) (sound (linesAt s (head .n) offsets) l) refl refl (sym z ∙ e);
+      }
+    where
+      by : (t u : Bool) → eqb (length l) (sizeOf (head .n)) ≡ t → sound (linesAt s (head .n) offsets) l ≡ u → 0 ≡ lowest (20 when not (eqb (length l) (sizeOf (head .n))) ∷ 21 when not (sound (linesAt s (head .n) offsets) l) ∷ []) → Opened s l head offsets
+      by true true f g h = record-right l small (eqb-true (length l) (sizeOf (head .n)) f) g
+      by true false f g h = let z : _≡_ {A = ℕ} 0 21 = h ∙ rw (f, g) in absurd (let y : ⊥ = omega arith in y)
+      by false u f g h = let z : _≡_ {A = ℕ} 0 20 = h ∙ rw f in absurd (let y : ⊥ = omega arith in y)
+
+-- the circuit's number
+pub circuit-judged : (s : List ℕ) (l : List ℤ) (r : Outcome) (offsets : List ℕ) → Says ours s r offsets → (r .number ≡ 0 → ⊥) → Opens s l r offsets
+circuit-judged s l r offsets says ne =
+    record {
+      refuses = λ no x asks. circuit-refused s (r .number) (r .place) (says .refuses ne) x l;
+      accepts = λ e. absurd (ne e);
+    }

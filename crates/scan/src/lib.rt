@@ -1,18 +1,23 @@
 // The calls on a record. Each judges circuit and record first, in the order of the numbers, and then has its one effect.
 ghost use mathlib.Core.Path.{_≡_};
-ghost use mathlib.Core.Bool.{cond};
+ghost use mathlib.Core.Bool.{cond, not};
+ghost use mathlib.Core.List.{[], _∷_};
+ghost use lib.Dec.{eqb};
 ghost use Prim.Native.Nat.{_+_, _≤_, _<_};
 ghost use lib.ListN.{length, getD};
 ghost use lib.IntN.{pos};
 ghost use Rattle.kinds.specs.Table.{kindsTable};
 ghost use Rattle.rules.specs.Rules.{three};
+ghost use Rattle.refusals.specs.Faults.{_when_, lowest};
 ghost use Rattle.blockfield.specs.Marked.{Lies};
 ghost use Rattle.decoding.specs.Decoded.{blockAt};
 ghost use Rattle.lines.specs.Lines.{lineOf};
 ghost use Rattle.record.specs.Places.{sizeOf, putWords, change};
+ghost use Rattle.record.specs.Sound.{sound};
 ghost use Rattle.record.specs.Written.{linesAt, Stand};
-ghost use Rattle.calls.specs.Calls.{coldWord, warmWord, latchWord};
-ghost use Rattle.scan.specs.Opened.{clearedUpTo};
+ghost use Rattle.calls.specs.Calls.{coldWord, warmWord, latchWord, isReading};
+ghost use Rattle.scan.specs.Opened.{clearedUpTo, Opens};
+use circuit::Outcome;
 use kinds::KindTable;
 
 // ---- effects
@@ -70,4 +75,57 @@ fn warm_words(kinds: &KindTable, bytes: &[u8], offsets: &[usize; 400], rec: &mut
     record::clear_fixed(rec);
     record::put_mark(rec, 1);
     record::put_eighth(rec, 1);
+}
+
+// ---- judging
+
+// 20, 21, or 0 where neither holds.
+fn record_number(
+    kinds: &KindTable,
+    circuit: &[u8],
+    offsets: &[usize; 400],
+    n: usize,
+    rec: &[i32],
+) -> u8
+    requires { ⌜ (now kinds ≡ kindsTable) × Stand (now circuit) n (now offsets) ⌝ }
+    ensures { λ r. ⌜ r ≡ lowest (20 when not (eqb (length (now (rec .entry))) (sizeOf n)) ∷ 21 when not (sound (linesAt (now (circuit .entry)) n (now (offsets .entry))) (now (rec .entry))) ∷ []) ⌝ }
+{
+    if rec.len() != record::size_of(n) {
+        return 20;
+    }
+    if record::is_sound(kinds, circuit, offsets, n, rec) {
+        return 0;
+    }
+    21
+}
+
+// Judges circuit and record: the number and place of a refusal, or 0 and what is known of the circuit.
+fn opened(kinds: &KindTable, circuit: &[u8], rec: &[i32], offsets: &mut [usize; 400]) -> Outcome
+    requires { ⌜ (now kinds ≡ kindsTable) × (length (now offsets) ≡ 400) ⌝ }
+    ensures { λ r. ⌜ Opens (now (circuit .entry)) (now (rec .entry)) r (now (offsets .exit)) ⌝ }
+{
+    let judged = circuit::judge(refusals::ours(), kinds, circuit, offsets);
+    if judged.number != 0 {
+        return judged;
+    }
+    let head = judged.head;
+    let number = record_number(kinds, circuit, offsets, head.n, rec);
+    Outcome {
+        number,
+        place: 0,
+        head,
+    }
+}
+
+// Whether 32 words and e are a reading.
+fn is_reading(inputs: &[i32], e: i32) -> bool
+    ensures { λ r. ⌜ r ≡ isReading (now (inputs .entry)) e ⌝ }
+{
+    let bits = record::run_fits(inputs, 0, 24, 0, 1);
+    let values = record::run_fits(inputs, 24, 8, 0, 1000);
+    let time = words::within(e, 0, 65535);
+    words::both(
+        inputs.len() == 32,
+        words::both(bits, words::both(values, time)),
+    )
 }
