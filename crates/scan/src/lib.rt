@@ -1,9 +1,9 @@
 // The calls on a record. Each judges circuit and record first, in the order of the numbers, and then has its one effect.
 ghost use mathlib.Core.Path.{_≡_};
-ghost use mathlib.Core.Bool.{cond, not};
+ghost use mathlib.Core.Bool.{cond, not, _&&_};
 ghost use mathlib.Core.List.{[], _∷_};
 ghost use lib.Dec.{eqb};
-ghost use Prim.Native.Nat.{_+_, _≤_, _<_};
+ghost use Prim.Native.Nat.{_+_, _-_, _≤_, _<_};
 ghost use lib.ListN.{length, getD};
 ghost use lib.IntN.{pos};
 ghost use Rattle.kinds.specs.Table.{kindsTable};
@@ -13,12 +13,14 @@ ghost use Rattle.blockfield.specs.Marked.{Lies};
 ghost use Rattle.decoding.specs.Decoded.{blockAt};
 ghost use Rattle.lines.specs.Lines.{lineOf};
 ghost use Rattle.record.specs.Places.{sizeOf, putWords, change};
-ghost use Rattle.record.specs.Sound.{sound};
+ghost use Rattle.record.specs.Sound.{sound, inScan};
 ghost use Rattle.record.specs.Written.{linesAt, Stand};
-ghost use Rattle.calls.specs.Calls.{coldWord, warmWord, latchWord, isReading};
+ghost use Rattle.steps.specs.Steps.{doneOf};
+ghost use Rattle.calls.specs.Calls.{coldStart, warmStart, latch as latchCall, run as runCall, publish as publishCall, coldWord, warmWord, latchWord, isReading, answerAfter, recordAfter, outputsAfter};
 ghost use Rattle.scan.specs.Opened.{clearedUpTo, Opens};
 use circuit::Outcome;
 use kinds::KindTable;
+use refusals::Answer;
 
 // ---- effects
 
@@ -128,4 +130,114 @@ fn is_reading(inputs: &[i32], e: i32) -> bool
         inputs.len() == 32,
         words::both(bits, words::both(values, time)),
     )
+}
+
+// Whether a scan has no blocks to go.
+fn is_finished(rec: &[i32], n: usize) -> bool
+    ensures { λ r. ⌜ r ≡ (inScan (now (rec .entry)) && eqb (n - doneOf (now (rec .entry))) 0) ⌝ }
+{
+    words::both(record::in_scan(rec), n <= record::done_of(rec))
+}
+
+// ---- the calls
+
+// "Cold start zeroes all but M8 and the mark, which become 1."
+pub fn cold_start(circuit: &[u8], rec: &mut [i32]) -> Answer
+    ensures { λ r. ⌜ (r ≡ answerAfter (now (circuit .entry)) coldStart (now (rec .entry)))
+        × (now (rec .exit) ≡ recordAfter (now (circuit .entry)) coldStart (now (rec .entry))) ⌝ }
+{
+    let kinds = kinds::table();
+    let mut offsets = [0usize; 400];
+    let judged = circuit::judge(refusals::ours(), &kinds, circuit, &mut offsets);
+    if judged.number != 0 {
+        return refusals::refused_at(judged.number as usize, judged.place);
+    }
+    let head = judged.head;
+    if rec.len() != record::size_of(head.n) {
+        return refusals::refused_at(20, 0);
+    }
+    cold_words(rec);
+    refusals::accepted_with(0, 0)
+}
+
+// "Warm start does that and keeps the three words of retentive blocks."
+pub fn warm_start(circuit: &[u8], rec: &mut [i32]) -> Answer
+    ensures { λ r. ⌜ (r ≡ answerAfter (now (circuit .entry)) warmStart (now (rec .entry)))
+        × (now (rec .exit) ≡ recordAfter (now (circuit .entry)) warmStart (now (rec .entry))) ⌝ }
+{
+    let kinds = kinds::table();
+    let mut offsets = [0usize; 400];
+    let judged = opened(&kinds, circuit, &rec[..], &mut offsets);
+    if judged.number != 0 {
+        return refusals::refused_at(judged.number as usize, judged.place);
+    }
+    if record::in_scan(&rec[..]) {
+        return refusals::refused_at(22, 0);
+    }
+    let head = judged.head;
+    warm_words(&kinds, circuit, &offsets, rec, head.n);
+    refusals::accepted_with(0, 0)
+}
+
+// "Latch stores e and 32 input words (I, then analog) and makes the phase 1."
+pub fn latch(circuit: &[u8], rec: &mut [i32], inputs: &[i32], e: i32) -> Answer
+    ensures { λ r. ⌜ (r ≡ answerAfter (now (circuit .entry)) (latchCall (now (inputs .entry)) e) (now (rec .entry)))
+        × (now (rec .exit) ≡ recordAfter (now (circuit .entry)) (latchCall (now (inputs .entry)) e) (now (rec .entry))) ⌝ }
+{
+    let kinds = kinds::table();
+    let mut offsets = [0usize; 400];
+    let judged = opened(&kinds, circuit, &rec[..], &mut offsets);
+    if judged.number != 0 {
+        return refusals::refused_at(judged.number as usize, judged.place);
+    }
+    if record::in_scan(&rec[..]) {
+        return refusals::refused_at(22, 0);
+    }
+    if is_reading(inputs, e) {
+        latch_words(rec, inputs, e);
+        return refusals::accepted_with(0, 0);
+    }
+    refusals::refused_at(23, 0)
+}
+
+// "Run up to c blocks": the next ones, as many as asked or as remain.
+pub fn run(circuit: &[u8], rec: &mut [i32], c: u32) -> Answer
+    ensures { λ r. ⌜ (r ≡ answerAfter (now (circuit .entry)) (runCall c) (now (rec .entry)))
+        × (now (rec .exit) ≡ recordAfter (now (circuit .entry)) (runCall c) (now (rec .entry))) ⌝ }
+{
+    let kinds = kinds::table();
+    let mut offsets = [0usize; 400];
+    let judged = opened(&kinds, circuit, &rec[..], &mut offsets);
+    if judged.number != 0 {
+        return refusals::refused_at(judged.number as usize, judged.place);
+    }
+    if record::in_scan(&rec[..]) {
+        let head = judged.head;
+        let done = steps::turn(&kinds, circuit, &offsets, head.n, rec, c);
+        return refusals::accepted_with(done.worked, done.left);
+    }
+    refusals::refused_at(22, 0)
+}
+
+// "Publish writes 28 output words .. and all flags at once from the rows."
+pub fn publish(circuit: &[u8], rec: &mut [i32], outs: &mut [i32]) -> Answer
+    ensures { λ r. ⌜ (r ≡ answerAfter (now (circuit .entry)) (publishCall (length (now (outs .entry)))) (now (rec .entry)))
+        × (now (rec .exit) ≡ recordAfter (now (circuit .entry)) (publishCall (length (now (outs .entry)))) (now (rec .entry)))
+        × (now (outs .exit) ≡ outputsAfter (now (circuit .entry)) (publishCall (length (now (outs .entry)))) (now (rec .entry)) (now (outs .entry))) ⌝ }
+{
+    let kinds = kinds::table();
+    let mut offsets = [0usize; 400];
+    let judged = opened(&kinds, circuit, &rec[..], &mut offsets);
+    if judged.number != 0 {
+        return refusals::refused_at(judged.number as usize, judged.place);
+    }
+    let head = judged.head;
+    if is_finished(&rec[..], head.n) {
+        if outs.len() != 28 {
+            return refusals::refused_at(24, 0);
+        }
+        destinations::publish_words(circuit, head.start, head.rows, rec, outs);
+        return refusals::accepted_with(0, 0);
+    }
+    refusals::refused_at(22, 0)
 }
