@@ -1,6 +1,5 @@
 -- `record::words_of` meets its contract: a block's words stand one after the other. Assumes nothing.
 use Prim.Native.Nat.{_+_, _*_}
-use mathlib.Core.Path.{sym, _∙_}
 use native.Mathlib.Nat.{add-zero}
 use Rattle.words.proofs.Locals.{back-to}
 use Rattle.record.specs.Places.{indexOf}
