@@ -1,15 +1,14 @@
 -- A sound record: the test and its facts. Assumes nothing.
 use Prim.Native.Nat.{ℕ, _<_}
-use mathlib.Core.Path.{_≡_, refl, _∙_}
-use mathlib.Core.Bool.{Bool, true, false, _&&_, _||_}
+use mathlib.Core.Path.{_≡_, refl}
+use mathlib.Core.Bool.{Bool, true, false, _||_}
 use mathlib.Core.List.{List}
 use lib.ListN.{length}
 use lib.IntN.{ℤ}
-use Rattle.words.specs.Signed.{Between}
 use Rattle.words.proofs.Bounds.{and-true}
-use Rattle.kinds.specs.Kinds.{In, inRange}
+use Rattle.kinds.specs.Kinds.{In}
 use Rattle.lines.specs.declared.Line.{Line}
-use Rattle.record.specs.Places.{Place, sizeOf, placeOf, indexOf, at, word}
+use Rattle.record.specs.Places.{Place, sizeOf, indexOf, at, word}
 use Rattle.record.specs.Sound.{rangeOf, every, inScan, atRest, fitsAt, sound}
 use Rattle.record.proofs.Located.{Real, index-below, place-index}
 use Rattle.record.proofs.Runs.{every-each, each-every}

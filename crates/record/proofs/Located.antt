@@ -3,15 +3,15 @@ use Prim.Native.Nat.{ℕ, zero, suc, _+_, _-_, _*_, _/_, _%_, _≤_, _<_}
 use native.Mathlib.Omega.{arith}
 use native.Mathlib.Nat.{add-zero, zero-add}
 use mathlib.Core.Path.{_≡_, refl, sym, ap, _∙_}
-use mathlib.Core.Bool.{Bool, true, false, cond}
+use mathlib.Core.Bool.{Bool, true, false}
 use mathlib.Core.List.{List, [], _∷_}
 use lib.Dec.{ltb}
-use lib.ListN.{length, set, length-set}
+use lib.ListN.{length, length-set}
 use lib.Seq.{getD-set-same, getD-set-other, ext-getD}
 use lib.IntN.{ℤ, pos}
 use borrow.Author.Tests.{ltb-true, ltb-false, lt-ltb, le-ltb}
 use Rattle.rules.specs.declared.BlockWords.{BlockWords}
-use Rattle.record.specs.Places.{Place, phase, done, mark, elapsed, input, analog, flag, analogFlag, block, output, remembered, number, sizeOf, indexOf, headPlace, placeOf, at, word, put, wordsOf, putWords, changeFrom, change}
+use Rattle.record.specs.Places.{Place, phase, done, mark, elapsed, input, analog, flag, analogFlag, block, output, remembered, number, sizeOf, indexOf, placeOf, at, word, put, putWords, changeFrom, change}
 
 -- a place that a record of n blocks has
 abbrev pub Real : ℕ → Place → Type 0

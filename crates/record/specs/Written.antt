@@ -1,5 +1,5 @@
 -- How the code reads and writes a record: run by run. Not part of what a reader has to believe.
-use Prim.Native.Nat.{ℕ, zero, suc, _+_, _*_, _≤_, _<_}
+use Prim.Native.Nat.{ℕ, zero, suc, _+_, _≤_, _<_}
 use mathlib.Core.Path.{_≡_}
 use mathlib.Core.Bool.{Bool, _&&_}
 use mathlib.Core.List.{List, map}
@@ -11,7 +11,7 @@ use Rattle.decoding.specs.Decoded.{blockAt}
 use Rattle.lines.specs.Lines.{lineOf}
 use Rattle.lines.specs.declared.Line.{Line}
 use Rattle.record.specs.Places.{phase, done, mark, elapsed, input, analog, flag, analogFlag, block, indexOf, at, word}
-use Rattle.record.specs.Sound.{blockRange, lineAt, every}
+use Rattle.record.specs.Sound.{blockRange, every}
 
 -- m words from an index on become g 0, g 1, ..
 unfoldable pub putAll : List ℤ → ℕ → ℕ → (ℕ → ℤ) → List ℤ

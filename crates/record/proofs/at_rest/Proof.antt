@@ -3,24 +3,16 @@ use Rattle.record.specs.Places.{indexOf}
 use borrow.Author.Needs.{needs}
 use Rattle.record.proofs.at_rest.Statement.{statement}
 use Rattle.record.proofs.at_rest.Tie as tie
-use Rattle.record.proofs.at_rest.Reads as reads
-use Rattle.record.proofs.at_rest.Lts as lts
-use Rattle.record.proofs.word_fits.Reads as word-fits-reads
-use Rattle.words.proofs.both.Reads as both-reads
 
--- src/lib.rt:366:17
 word-fits-requires : tie.Need-word-fits-requires
 word-fits-requires c κs = search needs
 
--- src/lib.rt:366:45
 word-fits-requires-2 : tie.Need-word-fits-requires-2
 word-fits-requires-2 c κs = search needs
 
--- src/lib.rt:366:5
 both-requires : tie.Need-both-requires
 both-requires c κs = search needs
 
--- src/lib.rt:363:1
 returns : tie.Need-returns
 unfolding indexOf
 returns c = rw (← c .before .before .word-fits .ensures, ← c .before .word-fits2 .ensures) (c .both .ensures)

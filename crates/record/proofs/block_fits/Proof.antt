@@ -8,73 +8,49 @@ use Rattle.record.specs.Written.{blockFits}
 use borrow.Author.Needs.{needs}
 use Rattle.record.proofs.block_fits.Statement.{statement}
 use Rattle.record.proofs.block_fits.Tie as tie
-use Rattle.record.proofs.block_fits.Reads as reads
-use Rattle.record.proofs.block_fits.Lts as lts
-use Rattle.kinds.proofs.number_fits.Reads as number-fits-reads
-use Rattle.kinds.proofs.output_fits.Reads as output-fits-reads
-use Rattle.kinds.proofs.remembered_fits.Reads as remembered-fits-reads
-use Rattle.lines.proofs.kind_at.Reads as kind-at-reads
-use Rattle.lines.proofs.time_at.Reads as time-at-reads
-use Rattle.record.proofs.word_at.Reads as word-at-reads
-use Rattle.words.proofs.both.Reads as both-reads
 
--- src/lib.rt:339:9
 kind-at-requires : tie.Need-kind-at-requires
 kind-at-requires c κs = search needs
 
--- src/lib.rt:340:9
 time-at-requires : tie.Need-time-at-requires
 time-at-requires c κs = search needs
 
--- src/lib.rt:341:22
 mul-i : tie.Need-mul-i
 mul-i c = search needs
 
--- src/lib.rt:341:13
 add-i : tie.Need-add-i
 add-i c = search needs
 
--- src/lib.rt:342:50
 word-at-requires : tie.Need-word-at-requires
 word-at-requires c κs = search needs
 
--- src/lib.rt:342:9
 output-fits-requires : tie.Need-output-fits-requires
 output-fits-requires c κs = search needs
 
--- src/lib.rt:343:71
 add-word-at : tie.Need-add-word-at
 add-word-at c = search needs
 
--- src/lib.rt:343:58
 word-at-requires-2 : tie.Need-word-at-requires-2
 word-at-requires-2 c κs = search needs
 
--- src/lib.rt:343:9
 remembered-fits-requires : tie.Need-remembered-fits-requires
 remembered-fits-requires c κs = search needs
 
--- src/lib.rt:344:69
 add-word-at-2 : tie.Need-add-word-at-2
 add-word-at-2 c = search needs
 
--- src/lib.rt:344:56
 word-at-requires-3 : tie.Need-word-at-requires-3
 word-at-requires-3 c κs = search needs
 
--- src/lib.rt:344:9
 number-fits-requires : tie.Need-number-fits-requires
 number-fits-requires c κs = search needs
 
--- src/lib.rt:345:25
 both-requires : tie.Need-both-requires
 both-requires c κs = search needs
 
--- src/lib.rt:345:5
 both-requires-2 : tie.Need-both-requires-2
 both-requires-2 c κs = search needs
 
--- src/lib.rt:335:1
 returns : tie.Need-returns
 unfolding lineOf indexOf blockFits
 returns c =

@@ -8,10 +8,6 @@ use Rattle.record.specs.Written.{blocksFit}
 use borrow.Author.Needs.{needs}
 use Rattle.record.proofs.blocks_fit.Statement.{statement}
 use Rattle.record.proofs.blocks_fit.Tie as tie
-use Rattle.record.proofs.blocks_fit.Reads as reads
-use Rattle.record.proofs.blocks_fit.Lts as lts
-use Rattle.record.proofs.block_fits.Reads as block-fits-reads
-use Rattle.words.proofs.both.Reads as both-reads
 
 abbrev Inv-loop : tie.InvT-loop
 Inv-loop kinds bytes offsets n rec ok₀ i₀ ok i = (i ≤ n) × (ok ≡ blocksFit bytes i offsets rec)
@@ -19,45 +15,35 @@ Inv-loop kinds bytes offsets n rec ok₀ i₀ ok i = (i ≤ n) × (ok ≡ blocks
 abbrev μ-loop : tie.MeasureT-loop
 μ-loop kinds bytes offsets n rec ok₀ i₀ ok i = n - i
 
--- src/lib.rt:355:5
 loop-holds : tie.Need-loop-holds Inv-loop μ-loop
 unfolding every
 loop-holds c = (omega arith, refl)
 
--- src/lib.rt:356:55
 mul-block-fits : tie.Need-mul-block-fits Inv-loop μ-loop
 mul-block-fits c = search needs
 
--- src/lib.rt:356:55
 element-copy-out-block-fits : tie.Need-element-copy-out-block-fits Inv-loop μ-loop
 element-copy-out-block-fits c = omega (arith, c .before .before .before .pre .1 .few, c .before .before .before .pre .1 .long)
 
--- src/lib.rt:356:72
 add-block-fits : tie.Need-add-block-fits Inv-loop μ-loop
 add-block-fits c = omega (arith, c .before .before .before .before .pre .1 .few)
 
--- src/lib.rt:356:30
 block-fits-requires : tie.Need-block-fits-requires Inv-loop μ-loop
 block-fits-requires c κs = (c .before .before .before .before .pre .0, c .before .before .before .before .pre .1 .lie _ (c .before .loop-test .taken), omega (arith, c .before .before .before .before .pre .1 .few))
 
--- src/lib.rt:356:9
 both-requires : tie.Need-both-requires Inv-loop μ-loop
 both-requires c κs = search needs
 
--- src/lib.rt:357:9
 add-i : tie.Need-add-i Inv-loop μ-loop
 add-i c = omega (arith, c .before .before .before .before .before .before .pre .1 .few)
 
--- src/lib.rt:355:5
 loop-less : tie.Need-loop-less Inv-loop μ-loop
 loop-less c = omega arith
 
--- src/lib.rt:355:5
 loop-again : tie.Need-loop-again Inv-loop μ-loop
 unfolding every
 loop-again c = (omega arith, rw (add-one, ← c .before .before .before .before .loop .inv .1, ← c .before .block-fits .ensures) (c .both .ensures))
 
--- src/lib.rt:349:1
 returns : tie.Need-returns Inv-loop μ-loop
 returns c =
     let e : c .before .loop .i ≡ c .before .before .before .args .n = omega arith in

@@ -3,19 +3,13 @@ use Rattle.record.specs.Places.{indexOf}
 use borrow.Author.Needs.{needs}
 use Rattle.record.proofs.clear_all.Statement.{statement}
 use Rattle.record.proofs.clear_all.Tie as tie
-use Rattle.record.proofs.clear_all.Reads as reads
-use Rattle.record.proofs.clear_all.Lts as lts
-use Rattle.record.proofs.clear_run.Reads as clear-run-reads
 
--- src/lib.rt:269:5
 clear-run-requires : tie.Need-clear-run-requires
 clear-run-requires c κs = search needs
 
--- src/lib.rt:264:1
 same-length : tie.Need-same-length
 same-length c = search needs
 
--- src/lib.rt:264:1
 returns : tie.Need-returns
 unfolding indexOf
 returns c = c .before .clear-run .ensures

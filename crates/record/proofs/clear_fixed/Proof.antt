@@ -3,19 +3,13 @@ use Rattle.record.specs.Places.{indexOf}
 use borrow.Author.Needs.{needs}
 use Rattle.record.proofs.clear_fixed.Statement.{statement}
 use Rattle.record.proofs.clear_fixed.Tie as tie
-use Rattle.record.proofs.clear_fixed.Reads as reads
-use Rattle.record.proofs.clear_fixed.Lts as lts
-use Rattle.record.proofs.clear_run.Reads as clear-run-reads
 
--- src/lib.rt:260:5
 clear-run-requires : tie.Need-clear-run-requires
 clear-run-requires c κs = search needs
 
--- src/lib.rt:257:1
 same-length : tie.Need-same-length
 same-length c = search needs
 
--- src/lib.rt:257:1
 returns : tie.Need-returns
 unfolding indexOf
 returns c = c .before .clear-run .ensures

@@ -8,9 +8,6 @@ use Rattle.record.specs.Written.{putAll, nothing}
 use borrow.Author.Needs.{needs}
 use Rattle.record.proofs.clear_run.Statement.{statement}
 use Rattle.record.proofs.clear_run.Tie as tie
-use Rattle.record.proofs.clear_run.Reads as reads
-use Rattle.record.proofs.clear_run.Lts as lts
-use Rattle.record.proofs.put_word.Reads as put-word-reads
 
 abbrev Inv-loop : tie.InvT-loop
 Inv-loop rec₀ a m i₀ rec i = (i ≤ m) × (length rec ≡ length rec₀) × (rec ≡ putAll rec₀ a i nothing)
@@ -18,37 +15,29 @@ Inv-loop rec₀ a m i₀ rec i = (i ≤ m) × (length rec ≡ length rec₀) × 
 abbrev μ-loop : tie.MeasureT-loop
 μ-loop rec₀ a m i₀ rec i = m - i
 
--- src/lib.rt:219:5
 loop-holds : tie.Need-loop-holds Inv-loop μ-loop
 unfolding putAll
 loop-holds c = (omega arith, refl, refl)
 
--- src/lib.rt:220:23
 add-put-word : tie.Need-add-put-word Inv-loop μ-loop
 add-put-word c = omega arith
 
--- src/lib.rt:220:9
 put-word-requires : tie.Need-put-word-requires Inv-loop μ-loop
 put-word-requires c κs = search needs
 
--- src/lib.rt:221:9
 add-i : tie.Need-add-i Inv-loop μ-loop
 add-i c = omega arith
 
--- src/lib.rt:219:5
 loop-less : tie.Need-loop-less Inv-loop μ-loop
 loop-less c = omega arith
 
--- src/lib.rt:219:5
 loop-again : tie.Need-loop-again Inv-loop μ-loop
 unfolding putAll
 loop-again c = let held = c .before .before .before .before .loop .inv in (omega arith, c .before .put-word .kept .0 ∙ held .1, rw (add-one, ← held .2) (c .before .put-word .ensures))
 
--- src/lib.rt:214:1
 same-length : tie.Need-same-length Inv-loop μ-loop
 same-length c = c .before .loop .inv .1
 
--- src/lib.rt:214:1
 returns : tie.Need-returns Inv-loop μ-loop
 returns c =
     let e : c .before .loop .i ≡ c .before .before .args .m = omega arith in

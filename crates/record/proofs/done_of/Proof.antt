@@ -4,24 +4,16 @@ use Rattle.record.specs.Places.{indexOf}
 use borrow.Author.Needs.{needs}
 use Rattle.record.proofs.done_of.Statement.{statement}
 use Rattle.record.proofs.done_of.Tie as tie
-use Rattle.record.proofs.done_of.Reads as reads
-use Rattle.record.proofs.done_of.Lts as lts
-use Rattle.record.proofs.word_at.Reads as word-at-reads
-use Rattle.words.proofs.amount_of.Reads as amount-of-reads
 
--- src/lib.rt:78:22
 word-at-requires : tie.Need-word-at-requires
 word-at-requires c κs = search needs
 
--- src/lib.rt:78:5
 amount-of-requires : tie.Need-amount-of-requires
 amount-of-requires c κs = search needs
 
--- src/lib.rt:78:5
 cast-result : tie.Need-cast-result
 cast-result c = search needs
 
--- src/lib.rt:75:1
 returns : tie.Need-returns
 unfolding indexOf
 returns c = rw (← c .before .word-at .ensures) (rw (back-ok (c .before .word-at .result) (c .before .word-at .ok)) at (c .amount-of .ensures))

@@ -6,20 +6,13 @@ use Rattle.record.specs.Places.{indexOf}
 use borrow.Author.Needs.{needs}
 use Rattle.record.proofs.elapsed_of.Statement.{statement}
 use Rattle.record.proofs.elapsed_of.Tie as tie
-use Rattle.record.proofs.elapsed_of.Reads as reads
-use Rattle.record.proofs.elapsed_of.Lts as lts
-use Rattle.record.proofs.word_at.Reads as word-at-reads
-use Rattle.words.proofs.amount_of.Reads as amount-of-reads
 
--- src/lib.rt:100:28
 word-at-requires : tie.Need-word-at-requires
 word-at-requires c κs = search needs
 
--- src/lib.rt:100:11
 amount-of-requires : tie.Need-amount-of-requires
 amount-of-requires c κs = search needs
 
--- src/lib.rt:97:1
 returns : tie.Need-returns
 unfolding indexOf
 returns c =

@@ -4,49 +4,34 @@ use Rattle.record.specs.Written.{fixedFit}
 use borrow.Author.Needs.{needs}
 use Rattle.record.proofs.fixed_fit.Statement.{statement}
 use Rattle.record.proofs.fixed_fit.Tie as tie
-use Rattle.record.proofs.fixed_fit.Reads as reads
-use Rattle.record.proofs.fixed_fit.Lts as lts
-use Rattle.record.proofs.head_fits.Reads as head-fits-reads
-use Rattle.record.proofs.run_fits.Reads as run-fits-reads
-use Rattle.words.proofs.both.Reads as both-reads
 
--- src/lib.rt:323:9
 head-fits-requires : tie.Need-head-fits-requires
 head-fits-requires c κs = search needs
 
--- src/lib.rt:324:9
 run-fits-requires : tie.Need-run-fits-requires
 run-fits-requires c κs = search needs
 
--- src/lib.rt:325:9
 run-fits-requires-2 : tie.Need-run-fits-requires-2
 run-fits-requires-2 c κs = search needs
 
--- src/lib.rt:326:9
 run-fits-requires-3 : tie.Need-run-fits-requires-3
 run-fits-requires-3 c κs = search needs
 
--- src/lib.rt:327:9
 run-fits-requires-4 : tie.Need-run-fits-requires-4
 run-fits-requires-4 c κs = search needs
 
--- src/lib.rt:329:33
 both-requires : tie.Need-both-requires
 both-requires c κs = search needs
 
--- src/lib.rt:329:21
 both-requires-2 : tie.Need-both-requires-2
 both-requires-2 c κs = search needs
 
--- src/lib.rt:329:9
 both-requires-3 : tie.Need-both-requires-3
 both-requires-3 c κs = search needs
 
--- src/lib.rt:328:5
 both-requires-4 : tie.Need-both-requires-4
 both-requires-4 c κs = search needs
 
--- src/lib.rt:319:1
 returns : tie.Need-returns
 unfolding indexOf fixedFit
 returns c = rw (← c .before .before .before .before .before .before .before .before .head-fits .ensures, ← c .before .before .before .before .before .before .before .run-fits .ensures, ← c .before .before .before .before .before .before .run-fits2 .ensures, ← c .before .before .before .before .before .run-fits3 .ensures, ← c .before .before .before .before .run-fits4 .ensures, ← c .before .before .before .both .ensures, ← c .before .before .both2 .ensures, ← c .before .both3 .ensures) (c .both4 .ensures)

@@ -6,23 +6,16 @@ use Rattle.record.specs.Places.{indexOf}
 use borrow.Author.Needs.{needs}
 use Rattle.record.proofs.output_at.Statement.{statement}
 use Rattle.record.proofs.output_at.Tie as tie
-use Rattle.record.proofs.output_at.Reads as reads
-use Rattle.record.proofs.output_at.Lts as lts
-use Rattle.record.proofs.word_at.Reads as word-at-reads
 
--- src/lib.rt:142:27
 mul-word-at : tie.Need-mul-word-at
 mul-word-at c = search needs
 
--- src/lib.rt:142:18
 add-word-at : tie.Need-add-word-at
 add-word-at c = search needs
 
--- src/lib.rt:142:5
 word-at-requires : tie.Need-word-at-requires
 word-at-requires c κs = search needs
 
--- src/lib.rt:138:1
 returns : tie.Need-returns
 unfolding indexOf
 returns c = rw (add-zero (161 + 3 * c .before .args .k)) (back-to (c .word-at .result) (c .word-at .ok) (c .word-at .ensures))

@@ -4,28 +4,19 @@ use Rattle.record.specs.Places.{indexOf}
 use borrow.Author.Needs.{needs}
 use Rattle.record.proofs.put_done.Statement.{statement}
 use Rattle.record.proofs.put_done.Tie as tie
-use Rattle.record.proofs.put_done.Reads as reads
-use Rattle.record.proofs.put_done.Lts as lts
-use Rattle.record.proofs.put_word.Reads as put-word-reads
-use Rattle.words.proofs.word_of_count.Reads as word-of-count-reads
 
--- src/lib.rt:86:46
 cast-word-of-count : tie.Need-cast-word-of-count
 cast-word-of-count c = search needs
 
--- src/lib.rt:86:25
 word-of-count-requires : tie.Need-word-of-count-requires
 word-of-count-requires c κs = search needs
 
--- src/lib.rt:86:5
 put-word-requires : tie.Need-put-word-requires
 put-word-requires c κs = search needs
 
--- src/lib.rt:82:1
 same-length : tie.Need-same-length
 same-length c = search needs
 
--- src/lib.rt:82:1
 returns : tie.Need-returns
 unfolding indexOf
 returns c = rw (back-to (c .before .before .word-of-count .result) (c .before .before .word-of-count .ok) (c .before .before .word-of-count .ensures)) at (c .before .put-word .ensures)

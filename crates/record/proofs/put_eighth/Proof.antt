@@ -4,23 +4,16 @@ use Rattle.record.specs.Places.{indexOf}
 use borrow.Author.Needs.{needs}
 use Rattle.record.proofs.put_eighth.Statement.{statement}
 use Rattle.record.proofs.put_eighth.Tie as tie
-use Rattle.record.proofs.put_eighth.Reads as reads
-use Rattle.record.proofs.put_eighth.Lts as lts
-use Rattle.record.proofs.put_word.Reads as put-word-reads
 
--- src/lib.rt:128:19
 add-put-word : tie.Need-add-put-word
 add-put-word c = search needs
 
--- src/lib.rt:128:5
 put-word-requires : tie.Need-put-word-requires
 put-word-requires c κs = search needs
 
--- src/lib.rt:125:1
 same-length : tie.Need-same-length
 same-length c = search needs
 
--- src/lib.rt:125:1
 returns : tie.Need-returns
 unfolding indexOf
 returns c = rw (back (c .before .before .before .fits .z)) at (c .before .put-word .ensures)

@@ -10,10 +10,6 @@ use Rattle.record.specs.Written.{putAll}
 use borrow.Author.Needs.{needs}
 use Rattle.record.proofs.put_run.Statement.{statement}
 use Rattle.record.proofs.put_run.Tie as tie
-use Rattle.record.proofs.put_run.Reads as reads
-use Rattle.record.proofs.put_run.Lts as lts
-use Rattle.record.proofs.put_word.Reads as put-word-reads
-use Rattle.record.proofs.word_at.Reads as word-at-reads
 
 abbrev Inv-loop : tie.InvT-loop
 Inv-loop rec₀ a from i₀ rec i = (i ≤ length from) × (length rec ≡ length rec₀) × (rec ≡ putAll rec₀ a i (at from))
@@ -21,32 +17,25 @@ Inv-loop rec₀ a from i₀ rec i = (i ≤ length from) × (length rec ≡ lengt
 abbrev μ-loop : tie.MeasureT-loop
 μ-loop rec₀ a from i₀ rec i = length from - i
 
--- src/lib.rt:206:5
 loop-holds : tie.Need-loop-holds Inv-loop μ-loop
 unfolding putAll
 loop-holds c = (omega arith, refl, refl)
 
--- src/lib.rt:207:13
 word-at-requires : tie.Need-word-at-requires Inv-loop μ-loop
 word-at-requires c κs = search needs
 
--- src/lib.rt:208:23
 add-put-word : tie.Need-add-put-word Inv-loop μ-loop
 add-put-word c = omega arith
 
--- src/lib.rt:208:9
 put-word-requires : tie.Need-put-word-requires Inv-loop μ-loop
 put-word-requires c κs = search needs
 
--- src/lib.rt:209:9
 add-i : tie.Need-add-i Inv-loop μ-loop
 add-i c = omega arith
 
--- src/lib.rt:206:5
 loop-less : tie.Need-loop-less Inv-loop μ-loop
 loop-less c = omega arith
 
--- src/lib.rt:206:5
 loop-again : tie.Need-loop-again Inv-loop μ-loop
 unfolding putAll
 loop-again c =
@@ -54,11 +43,9 @@ loop-again c =
     let word = c .before .before .before .word-at in
     (omega arith, c .before .put-word .kept .0 ∙ held .1, rw (add-one, ← held .2, ← word .ensures) (rw (back-ok (word .result) (word .ok)) at (c .before .put-word .ensures)))
 
--- src/lib.rt:201:1
 same-length : tie.Need-same-length Inv-loop μ-loop
 same-length c = c .before .loop .inv .1
 
--- src/lib.rt:201:1
 returns : tie.Need-returns Inv-loop μ-loop
 returns c =
     let e : c .before .loop .i ≡ length (c .before .before .args .from .now) = omega arith in

@@ -4,26 +4,19 @@ use lib.Seq.{set-out}
 use borrow.Author.Needs.{needs}
 use Rattle.record.proofs.put_word.Statement.{statement}
 use Rattle.record.proofs.put_word.Tie as tie
-use Rattle.record.proofs.put_word.Reads as reads
-use Rattle.record.proofs.put_word.Lts as lts
 
--- src/lib.rt:54:9
 mul-z : tie.Need-mul-z
 mul-z c = search needs
 
--- src/lib.rt:54:9
 slice-set-from-z : tie.Need-slice-set-from-z
 slice-set-from-z c = search needs
 
--- src/lib.rt:50:1
 same-length : tie.Need-same-length
 same-length c = search needs
 
--- src/lib.rt:50:1
 returns : tie.Need-returns
 returns c = search needs
 
--- src/lib.rt:50:1
 returns-2 : tie.Need-returns-2
 returns-2 c = sym (set-out _ _ _ (c .if1 .left))
 

@@ -10,43 +10,31 @@ use Rattle.record.specs.Places.{indexOf}
 use borrow.Author.Needs.{needs}
 use Rattle.record.proofs.put_words.Statement.{statement}
 use Rattle.record.proofs.put_words.Tie as tie
-use Rattle.record.proofs.put_words.Reads as reads
-use Rattle.record.proofs.put_words.Lts as lts
-use Rattle.record.proofs.put_word.Reads as put-word-reads
 
--- src/lib.rt:161:22
 mul-i : tie.Need-mul-i
 mul-i c = search needs
 
--- src/lib.rt:161:13
 add-i : tie.Need-add-i
 add-i c = search needs
 
--- src/lib.rt:165:5
 put-word-requires : tie.Need-put-word-requires
 put-word-requires c κs = search needs
 
--- src/lib.rt:166:19
 add-put-word : tie.Need-add-put-word
 add-put-word c = search needs
 
--- src/lib.rt:166:5
 put-word-requires-2 : tie.Need-put-word-requires-2
 put-word-requires-2 c κs = search needs
 
--- src/lib.rt:167:19
 add-put-word-2 : tie.Need-add-put-word-2
 add-put-word-2 c = search needs
 
--- src/lib.rt:167:5
 put-word-requires-3 : tie.Need-put-word-requires-3
 put-word-requires-3 c κs = search needs
 
--- src/lib.rt:157:1
 same-length : tie.Need-same-length
 same-length c = search needs
 
--- src/lib.rt:157:1
 returns : tie.Need-returns
 unfolding indexOf
 returns c =

@@ -12,10 +12,6 @@ use Rattle.record.specs.Written.{runFits}
 use borrow.Author.Needs.{needs}
 use Rattle.record.proofs.run_fits.Statement.{statement}
 use Rattle.record.proofs.run_fits.Tie as tie
-use Rattle.record.proofs.run_fits.Reads as reads
-use Rattle.record.proofs.run_fits.Lts as lts
-use Rattle.record.proofs.word_fits.Reads as word-fits-reads
-use Rattle.words.proofs.both.Reads as both-reads
 
 abbrev Inv-loop : tie.InvT-loop
 Inv-loop rec a m least greatest ok₀ i₀ ok i = (i ≤ m) × (ok ≡ runFits (toZ w32 least to toZ w32 greatest) rec a i)
@@ -23,37 +19,29 @@ Inv-loop rec a m least greatest ok₀ i₀ ok i = (i ≤ m) × (ok ≡ runFits (
 abbrev μ-loop : tie.MeasureT-loop
 μ-loop rec a m least greatest ok₀ i₀ ok i = m - i
 
--- src/lib.rt:298:5
 loop-holds : tie.Need-loop-holds Inv-loop μ-loop
 unfolding every
 loop-holds c = (omega arith, refl)
 
--- src/lib.rt:299:45
 add-word-fits : tie.Need-add-word-fits Inv-loop μ-loop
 add-word-fits c = omega arith
 
--- src/lib.rt:299:30
 word-fits-requires : tie.Need-word-fits-requires Inv-loop μ-loop
 word-fits-requires c κs = search needs
 
--- src/lib.rt:299:9
 both-requires : tie.Need-both-requires Inv-loop μ-loop
 both-requires c κs = search needs
 
--- src/lib.rt:300:9
 add-i : tie.Need-add-i Inv-loop μ-loop
 add-i c = omega arith
 
--- src/lib.rt:298:5
 loop-less : tie.Need-loop-less Inv-loop μ-loop
 loop-less c = omega arith
 
--- src/lib.rt:298:5
 loop-again : tie.Need-loop-again Inv-loop μ-loop
 unfolding every
 loop-again c = (omega arith, rw (add-one, ← c .before .before .before .loop .inv .1, ← c .before .word-fits .ensures) (c .both .ensures))
 
--- src/lib.rt:292:1
 returns : tie.Need-returns Inv-loop μ-loop
 returns c =
     let e : c .before .loop .i ≡ c .before .before .args .m = omega arith in

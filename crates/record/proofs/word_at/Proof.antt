@@ -5,22 +5,16 @@ use lib.ListN.{List·getD-eq-default}
 use borrow.Author.Needs.{needs}
 use Rattle.record.proofs.word_at.Statement.{statement}
 use Rattle.record.proofs.word_at.Tie as tie
-use Rattle.record.proofs.word_at.Reads as reads
-use Rattle.record.proofs.word_at.Lts as lts
 
--- src/lib.rt:46:24
 mul-result : tie.Need-mul-result
 mul-result c = search needs
 
--- src/lib.rt:46:24
 shared-slice-copy-out-result : tie.Need-shared-slice-copy-out-result
 shared-slice-copy-out-result c = search needs
 
--- src/lib.rt:43:1
 returns : tie.Need-returns
 returns c = search needs
 
--- src/lib.rt:43:1
 returns-2 : tie.Need-returns-2
 returns-2 c = sym (List·getD-eq-default (c .before .args .rec .now) (pos 0) (c .if1 .left))
 

@@ -1,50 +1,36 @@
 -- `record::words_of` meets its contract: a block's words stand one after the other. Assumes nothing.
 use Prim.Native.Nat.{_+_, _*_}
-use mathlib.Core.Path.{sym, _∙_}
 use native.Mathlib.Nat.{add-zero}
 use Rattle.words.proofs.Locals.{back-to}
 use Rattle.record.specs.Places.{indexOf}
 use borrow.Author.Needs.{needs}
 use Rattle.record.proofs.words_of.Statement.{statement}
 use Rattle.record.proofs.words_of.Tie as tie
-use Rattle.record.proofs.words_of.Reads as reads
-use Rattle.record.proofs.words_of.Lts as lts
-use Rattle.record.proofs.word_at.Reads as word-at-reads
-use Rattle.rules.proofs.three_of.Reads as three-of-reads
 
--- src/lib.rt:152:22
 mul-i : tie.Need-mul-i
 mul-i c = search needs
 
--- src/lib.rt:152:13
 add-i : tie.Need-add-i
 add-i c = search needs
 
--- src/lib.rt:153:21
 word-at-requires : tie.Need-word-at-requires
 word-at-requires c κs = search needs
 
--- src/lib.rt:153:51
 add-word-at : tie.Need-add-word-at
 add-word-at c = search needs
 
--- src/lib.rt:153:38
 word-at-requires-2 : tie.Need-word-at-requires-2
 word-at-requires-2 c κs = search needs
 
--- src/lib.rt:153:72
 add-word-at-2 : tie.Need-add-word-at-2
 add-word-at-2 c = search needs
 
--- src/lib.rt:153:59
 word-at-requires-3 : tie.Need-word-at-requires-3
 word-at-requires-3 c κs = search needs
 
--- src/lib.rt:153:5
 three-of-requires : tie.Need-three-of-requires
 three-of-requires c κs = search needs
 
--- src/lib.rt:148:1
 returns : tie.Need-returns
 unfolding indexOf
 returns c =
