@@ -29,7 +29,8 @@ static bool sound_block(const uint8_t *content, const int32_t *own) {
     const unsigned kind = content[0];
     const bool analog = kind == MULTIPLEXER;
     return within(own + OUTPUT, 1, analog ? -32768 : 0, analog ? 32767 : 1) &&
-           within(own + REMEMBERED, 1, 0, oracle_kind_rules[kind].remembers) && within(own + NUMBER, 1, 0, greatest_number(content));
+           within(own + REMEMBERED, 1, 0, oracle_kind_rules[kind].remembers) &&
+           within(own + NUMBER, 1, 0, greatest_number(content));
 }
 
 static bool is_sound(const known_circuit *circuit, const int32_t *record) {

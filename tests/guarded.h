@@ -12,7 +12,8 @@ typedef struct {
     size_t room;   /* bytes */
 } guarded;
 
-/* So many bytes, a multiple of 65,536. A call may not write them where they are read-only. Ends the program where there is no memory. */
+/* So many bytes, a multiple of 65,536. A call may not write them where they are read-only. Ends the program where there is no
+ * memory. */
 guarded guarded_memory(size_t room, bool read_only);
 
 /* Calls `tell` where a page is touched that may not be; it does not return. */

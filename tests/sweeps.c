@@ -20,7 +20,8 @@ static void make_block(unsigned kind, const unsigned (*connectors)[2], const int
     lend_circuit(made.bytes, made.length, made.kinds);
 }
 
-/* Runs the one block: bit i of `inputs` is I(i + 1), x and y are AM1 and AM2, and where they may stand there analog inputs 1 and 2. */
+/* Runs the one block: bit i of `inputs` is I(i + 1), x and y are AM1 and AM2, and where they may stand there analog inputs 1 and 2.
+ */
 static void run_block(unsigned inputs, int32_t x, int32_t y, int32_t e, const int32_t own[3]) {
     static const call run_one = {.name = RUN, .c = 1};
     words.record_length = SERIFDOVE_RECORD_WORDS(1);
@@ -62,7 +63,8 @@ static void sweep_digital(unsigned kind, const int32_t *parameters) {
 }
 
 static void sweep_settings(unsigned kind) {
-    static const int32_t settings[][2] = {{0, 0}, {0, 1}, {0, 2}, {0, 3}, {0, 9999}, {1, 0}, {1, 1}, {1, 5999}, {2, 1}, {2, 11}, {2, 5999}};
+    static const int32_t settings[][2] = {{0, 0}, {0, 1},    {0, 2}, {0, 3},  {0, 9999}, {1, 0},
+                                          {1, 1}, {1, 5999}, {2, 1}, {2, 11}, {2, 5999}};
     for (size_t s = 0; s < LENGTH(settings); s++) {
         make_block(kind, plain, settings[s]);
         const int32_t t = ticks_of(&made, 1), counts[] = {0, 1, t / 2, t - 2, t - 1, t};
@@ -113,7 +115,8 @@ static void sweep_around(unsigned kind, int32_t a, int32_t b, int32_t x, int32_t
 }
 
 static void sweep_thresholds(unsigned kind) {
-    static const int32_t gains[] = {-1000, -150, -100, -99, -33, -1, 0, 1, 33, 99, 100, 101, 1000}, offsets[] = {-10000, -1, 0, 10000};
+    static const int32_t gains[] = {-1000, -150, -100, -99, -33, -1, 0, 1, 33, 99, 100, 101, 1000},
+                         offsets[] = {-10000, -1, 0, 10000};
     static const int32_t values[] = {0, 1, 10, 99, 101, 999, 1000, -1, -10, -101, -32768, 32767};
     for (size_t g = 0; g < LENGTH(gains); g++)
         for (size_t v = 0; v < LENGTH(values); v++)
@@ -226,9 +229,8 @@ static void begin_record(chance *with, bool in_scan) {
 
 static void try_word(size_t place, const lent_words *sound, const call *c, bool in_scan) {
     const word_range r = range_at(&made, place, in_scan);
-    const int32_t values[] = {r.least,   r.greatest, r.least - 1, r.greatest + 1, r.least + 1, r.greatest - 1, -1,
-                              2,         256,        1001,        32768,          65536,       -32769,         INT32_MIN,
-                              INT32_MAX, 35994001};
+    const int32_t values[] = {r.least, r.greatest, r.least - 1, r.greatest + 1, r.least + 1, r.greatest - 1, -1,        2,
+                              256,     1001,       32768,       65536,          -32769,      INT32_MIN,      INT32_MAX, 35994001};
     for (size_t i = 0; i < LENGTH(values); i++) {
         copy_words(&words, sound);
         words.record[place] = values[i];
@@ -253,7 +255,8 @@ static void sweep_records(chance *with) {
 /* ---- 20, 22, 24 and the lengths of 23 */
 
 static void try_lengths(chance *with, bool in_scan) {
-    const size_t right = SERIFDOVE_RECORD_WORDS(made.n), records[] = {0, 1, 163, 164, right - 3, right - 1, right, right + 1, right + 3};
+    const size_t right = SERIFDOVE_RECORD_WORDS(made.n),
+                 records[] = {0, 1, 163, 164, right - 3, right - 1, right, right + 1, right + 3};
     static const size_t others[] = {0, 1, 20, 24, 27, 28, 29, 31, 32, 33, 40};
     call latch = some_latch(with), run = run_of(1);
     const call *all[] = {&cold, &warm, &latch, &run, &publish};

@@ -7,7 +7,8 @@ static const side *const oracle = &sides[ORACLE];
 
 /* ---- wrong answers and words */
 
-static serifdove_answer counts_one_more(const uint8_t *circuit, size_t circuit_len, int32_t *record, size_t record_len, uint32_t c) {
+static serifdove_answer counts_one_more(const uint8_t *circuit, size_t circuit_len, int32_t *record, size_t record_len,
+                                        uint32_t c) {
     serifdove_answer answer = oracle->run(circuit, circuit_len, record, record_len, c);
     answer.first += answer.number == 0 && c > 400;
     return answer;
@@ -69,7 +70,8 @@ static void touch(const void *slice, size_t length) {
         read_at(slice, touched == BEFORE ? -1 : (ptrdiff_t)length);
 }
 
-static serifdove_answer touches_circuit(const uint8_t *circuit, size_t circuit_len, int32_t *record, size_t record_len, uint32_t c) {
+static serifdove_answer touches_circuit(const uint8_t *circuit, size_t circuit_len, int32_t *record, size_t record_len,
+                                        uint32_t c) {
     touch(circuit, circuit_len);
     return oracle->run(circuit, circuit_len, record, record_len, c);
 }
