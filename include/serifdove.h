@@ -82,8 +82,8 @@ enum serifdove_limit {
 /* How many words the record of a circuit with n blocks has. */
 #define SERIFDOVE_RECORD_WORDS(n) (164 + 3 * (n))
 
-/* Where each word of a record stands. All words change by calls only; a host may look at them between two calls, and may keep a
-   copy of a record and lend it later. */
+/* Where each word of a record stands. A host may look at them between two calls, and may keep a copy of a record and lend that
+   later. What the words may be is judged by each call but cold start (21). */
 enum serifdove_record_word {
     /* 0 waiting, 1 in a scan: from an accepted latch to an accepted publish */
     SERIFDOVE_PHASE = 0,

@@ -16,6 +16,9 @@ enum {
     FIRST_BLOCK = FIRST_AM + 64
 };
 
+/* What the phase may be. */
+enum { WAITING, IN_SCAN };
+
 /* The words of a block. */
 enum { OUTPUT, REMEMBERED, NUMBER, WORDS_OF_A_BLOCK };
 

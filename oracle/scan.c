@@ -36,9 +36,9 @@ static bool sound_block(const uint8_t *content, const int32_t *own) {
 static bool is_sound(const known_circuit *circuit, const int32_t *record) {
     if (!within(record + PHASE, 1, 0, 1) || !within(record + MARK, 1, 0, 1))
         return false;
-    if (!within(record + DONE, 1, 0, record[PHASE] ? (int32_t)circuit->n : 0))
+    if (!within(record + DONE, 1, 0, record[PHASE] == IN_SCAN ? (int32_t)circuit->n : 0))
         return false;
-    if (!within(record + ELAPSED, 1, 0, record[PHASE] ? 65535 : 0))
+    if (!within(record + ELAPSED, 1, 0, record[PHASE] == IN_SCAN ? 65535 : 0))
         return false;
     if (!within(record + FIRST_I, 24, 0, 1) || !within(record + FIRST_AI, 8, 0, 1000))
         return false;
@@ -62,12 +62,16 @@ static serifdove_answer judge_length(known_circuit *known, const uint8_t *circui
     return accepted(0, 0);
 }
 
-/* 1 to 11, 20 and 21. */
+/* 1 to 11, 20, 21, and 22 where the record has not this phase. */
 static serifdove_answer judge_record(known_circuit *known, const uint8_t *circuit, size_t circuit_len, const int32_t *record,
-                                     size_t record_len) {
+                                     size_t record_len, int32_t phase) {
     const serifdove_answer answer = judge_length(known, circuit, circuit_len, record_len);
-    if (answer.number == 0 && !is_sound(known, record))
+    if (answer.number != 0)
+        return answer;
+    if (!is_sound(known, record))
         return refused(21, 0);
+    if (record[PHASE] != phase)
+        return refused(22, 0);
     return answer;
 }
 
@@ -91,11 +95,9 @@ serifdove_answer oracle_cold_start(const uint8_t *circuit, size_t circuit_len, i
 
 serifdove_answer oracle_warm_start(const uint8_t *circuit, size_t circuit_len, int32_t *record, size_t record_len) {
     known_circuit known;
-    const serifdove_answer answer = judge_record(&known, circuit, circuit_len, record, record_len);
+    const serifdove_answer answer = judge_record(&known, circuit, circuit_len, record, record_len, WAITING);
     if (answer.number != 0)
         return answer;
-    if (record[PHASE] != 0)
-        return refused(22, 0);
     begin_all_but_blocks(record);
     for (unsigned k = 1; k <= known.n; k++)
         if ((known.contents[k][1] & 1) == 0)
@@ -108,26 +110,22 @@ serifdove_answer oracle_warm_start(const uint8_t *circuit, size_t circuit_len, i
 serifdove_answer oracle_latch(const uint8_t *circuit, size_t circuit_len, int32_t *record, size_t record_len, const int32_t *inputs,
                               size_t inputs_len, int32_t e) {
     known_circuit known;
-    const serifdove_answer answer = judge_record(&known, circuit, circuit_len, record, record_len);
+    const serifdove_answer answer = judge_record(&known, circuit, circuit_len, record, record_len, WAITING);
     if (answer.number != 0)
         return answer;
-    if (record[PHASE] != 0)
-        return refused(22, 0);
     if (inputs_len != 32 || !within(inputs, 24, 0, 1) || !within(inputs + 24, 8, 0, 1000) || !within(&e, 1, 0, 65535))
         return refused(23, 0);
     memcpy(record + FIRST_I, inputs, 32 * sizeof *record);
     record[ELAPSED] = e;
-    record[PHASE] = 1;
+    record[PHASE] = IN_SCAN;
     return answer;
 }
 
 serifdove_answer oracle_run(const uint8_t *circuit, size_t circuit_len, int32_t *record, size_t record_len, uint32_t c) {
     known_circuit known;
-    const serifdove_answer answer = judge_record(&known, circuit, circuit_len, record, record_len);
+    const serifdove_answer answer = judge_record(&known, circuit, circuit_len, record, record_len, IN_SCAN);
     if (answer.number != 0)
         return answer;
-    if (record[PHASE] == 0)
-        return refused(22, 0);
     const unsigned done = (unsigned)record[DONE], left = known.n - done, turn = c < left ? c : left;
     for (unsigned k = done + 1; k <= done + turn; k++)
         oracle_work_out(known.contents[k], record, record + block_words(k));
@@ -152,10 +150,10 @@ static void publish_rows(const known_circuit *circuit, int32_t *record, int32_t 
 serifdove_answer oracle_publish(const uint8_t *circuit, size_t circuit_len, int32_t *record, size_t record_len, int32_t *outputs,
                                 size_t outputs_len) {
     known_circuit known;
-    const serifdove_answer answer = judge_record(&known, circuit, circuit_len, record, record_len);
+    const serifdove_answer answer = judge_record(&known, circuit, circuit_len, record, record_len, IN_SCAN);
     if (answer.number != 0)
         return answer;
-    if (record[PHASE] == 0 || record[DONE] != (int32_t)known.n)
+    if (record[DONE] != (int32_t)known.n)
         return refused(22, 0);
     if (outputs_len != 28)
         return refused(24, 0);

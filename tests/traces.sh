@@ -8,5 +8,6 @@ need_archive
 build_c "$work/traces" tests/traces.c tests/wrong_sides.c tests/sweeps.c tests/calls.c tests/records.c tests/guarded.c tests/sides.c \
     tests/constructed.c tests/circuits.c $oracle
 
-finds "$work/traces" '# traces: mismatch: ' $(run "$work/traces" --self-test-names) || exit 1
+names=$(run "$work/traces" --self-test-names) && [ -n "$names" ] || exit 1
+finds "$work/traces" '# traces: mismatch: ' $names
 run "$work/traces" "$@"
