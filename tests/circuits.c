@@ -4,13 +4,17 @@
 
 /* ---- chance */
 
-chance chance_of(uint64_t seed) { return (chance){seed * 0x9E3779B97F4A7C15u + 0x2545F4914F6CDD1Du}; }
+static uint64_t mixed(uint64_t z) {
+    z = (z ^ z >> 30) * 0xBF58476D1CE4E5B9u;
+    return (z ^ z >> 27) * 0x94D049BB133111EBu;
+}
+
+/* Mixed, so that no seed's numbers are another's from a later place on. */
+chance chance_of(uint64_t seed) { return (chance){mixed(seed + 0x2545F4914F6CDD1Du)}; }
 
 uint32_t below(chance *with, uint32_t bound) {
-    uint64_t z = with->state += 0x9E3779B97F4A7C15u;
-    z = (z ^ z >> 30) * 0xBF58476D1CE4E5B9u;
-    z = (z ^ z >> 27) * 0x94D049BB133111EBu;
-    return (uint32_t)(((z >> 32) * bound) >> 32);
+    with->state += 0x9E3779B97F4A7C15u;
+    return (uint32_t)(((mixed(with->state) >> 32) * bound) >> 32);
 }
 
 bool once_in(chance *with, uint32_t times) { return below(with, times) == 0; }

@@ -63,7 +63,7 @@ static void disturb(chance *with) {
 
 /* ---- every way to part a scan into turns, against the scan in one go */
 
-/* Bit i of `cuts`: a turn ends behind block i + 1. The last turn asks for more than is left. */
+/* Bit i of `cuts`: a turn ends behind block i + 1. The last turn asks for what is left, or for more. */
 static void scan_in_turns(chance *with, unsigned cuts) {
     unsigned turn = 0;
     for (unsigned k = 1; k <= made.n; k++) {
