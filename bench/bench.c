@@ -1,25 +1,13 @@
-/* Times serifdove_check and oracle_check side by side, and measures the stack of each.
+/* Times the archive's calls beside the oracle's, check and whole scans, and measures the stack of each call.
    The last line tells what is missed by far; the status is 1 then. */
-#define _GNU_SOURCE
 #include "circuits.h"
-#include "oracle.h"
-#include "serifdove.h"
+#include "measure.h"
 
-#include <pthread.h>
 #include <stdio.h>
 #include <stdlib.h>
 #include <string.h>
-#include <sys/mman.h>
-#include <time.h>
 
-typedef serifdove_answer check_function(const uint8_t *circuit, size_t length);
-
-enum { ARCHIVE, ORACLE, CHECKS };
-
-static check_function *const checks[CHECKS] = {serifdove_check, oracle_check};
-static const char *const names[CHECKS] = {"archive", "oracle"};
-
-enum { SIZES = 4, ROUNDS = 15, ROUND_NANOSECONDS = 10000000 };
+enum { SIZES = 4 };
 
 static const unsigned sizes[SIZES] = {0, 100, 200, 400};
 static circuit circuits[SIZES];
@@ -28,115 +16,174 @@ static circuit circuits[SIZES];
 static const double most_ratio = 1.0, most_growth = 4.4, far_growth = 6.0;
 enum { MOST_STACK = 16 * 1024 };
 
-static void make_circuits(void) {
+/* ---- tasks */
+
+static size_t refusals; /* none is expected where time is measured */
+
+static serifdove_answer told(serifdove_answer answer) {
+    refusals += answer.number != 0;
+    return answer;
+}
+
+static size_t words_of(const subject *on) { return SERIFDOVE_RECORD_WORDS(on->c->n); }
+
+static void check(const side *by, subject *on) { told(by->check(on->c->bytes, on->length)); }
+
+static void cold_start(const side *by, subject *on) { told(by->cold_start(on->c->bytes, on->length, on->record, words_of(on))); }
+
+static void warm_start(const side *by, subject *on) { told(by->warm_start(on->c->bytes, on->length, on->record, words_of(on))); }
+
+/* The inputs are others in each scan. */
+static void latch(const side *by, subject *on) {
+    for (unsigned k = 1; k <= 24; k++)
+        on->inputs[SERIFDOVE_INPUT_I(k)] ^= 1;
+    on->inputs[SERIFDOVE_INPUT_AI(1)] = 1000 - on->inputs[SERIFDOVE_INPUT_AI(1)];
+    told(by->latch(on->c->bytes, on->length, on->record, words_of(on), on->inputs, SERIFDOVE_INPUT_WORD_COUNT, 1));
+}
+
+/* A turn; gives how many blocks are to go. */
+static size_t run(const side *by, subject *on) {
+    return told(by->run(on->c->bytes, on->length, on->record, words_of(on), on->turn)).second;
+}
+
+static void publish(const side *by, subject *on) {
+    told(by->publish(on->c->bytes, on->length, on->record, words_of(on), on->outputs, SERIFDOVE_OUTPUT_WORD_COUNT));
+}
+
+static void whole_scan(const side *by, subject *on) {
+    latch(by, on);
+    while (run(by, on) > 0)
+        continue;
+    publish(by, on);
+}
+
+/* A turn in the middle of a scan, again and again. */
+static void same_turn(const side *by, subject *on) {
+    on->record[SERIFDOVE_DONE] = (int32_t)on->c->n / 2;
+    run(by, on);
+}
+
+static void run_turn(const side *by, subject *on) { run(by, on); }
+
+/* ---- subjects */
+
+static subject on[SIDES];
+
+/* Each side starts on this circuit; what they leave later is compared. */
+static void begin_on(unsigned size, uint32_t turn) {
+    for (unsigned k = 0; k < SIDES; k++) {
+        memset(&on[k], 0, sizeof on[k]);
+        on[k].c = &circuits[size];
+        on[k].length = circuits[size].length;
+        on[k].turn = turn;
+        cold_start(&sides[k], &on[k]);
+    }
+}
+
+static times timed(task *what) {
+    const times t = time_both(what, on);
+    if (refusals > 0 || memcmp(on[ARCHIVE].record, on[ORACLE].record, sizeof on[ORACLE].record) != 0 ||
+        memcmp(on[ARCHIVE].outputs, on[ORACLE].outputs, sizeof on[ORACLE].outputs) != 0) {
+        printf("bench: a call was refused, or archive and oracle leave different words\n");
+        exit(2);
+    }
+    return t;
+}
+
+/* ---- tables of times: the best round of each side, the ratio of these, and that of the median rounds */
+
+static double worst_ratio;
+
+static void print_times(times t) {
+    const double ratio = t.best[ARCHIVE] / t.best[ORACLE];
+    printf(" %.0f | %.0f | %.2f | %.2f |\n", t.best[ARCHIVE], t.best[ORACLE], ratio, t.median[ARCHIVE] / t.median[ORACLE]);
+    if (on[ARCHIVE].c->n > 0 && ratio > worst_ratio)
+        worst_ratio = ratio;
+}
+
+static const char columns[] = "archive, ns | oracle, ns | ratio | of medians |\n|---|---|---|---|---|";
+
+/* Times a task in a scan, at each size from this one on; gives how the archive's time grows from 100 to 400 blocks. */
+static double time_sizes(const char *name, task *what, uint32_t turn, unsigned from) {
+    times t[SIZES];
+    printf("| %s: blocks | bytes | %s---|\n", name, columns);
+    for (unsigned s = from; s < SIZES; s++) {
+        begin_on(s, turn);
+        for (unsigned k = 0; k < SIDES; k++)
+            latch(&sides[k], &on[k]);
+        t[s] = timed(what);
+        printf("| %u | %zu |", sizes[s], circuits[s].length);
+        print_times(t[s]);
+    }
+    printf("\n");
+    return t[3].best[ARCHIVE] / t[1].best[ARCHIVE];
+}
+
+static void time_scans(void) {
+    static const uint32_t turns[] = {UINT32_MAX, 8, 1};
+    printf("| a scan: blocks | blocks a turn | %s---|\n", columns);
+    for (unsigned s = 1; s < SIZES; s += 2)
+        for (size_t i = 0; i < sizeof turns / sizeof *turns; i++) {
+            begin_on(s, turns[i]);
+            const times t = timed(whole_scan);
+            if (turns[i] == UINT32_MAX)
+                printf("| %u | all |", sizes[s]);
+            else
+                printf("| %u | %u |", sizes[s], (unsigned)turns[i]);
+            print_times(t);
+        }
+    printf("\n");
+}
+
+/* ---- stack */
+
+static const struct {
+    const char *name;
+    task *what;
+} calls[] = {
+    {"check", check}, {"cold start", cold_start}, {"warm start", warm_start},
+    {"latch", latch}, {"run", run_turn},          {"publish", publish},
+};
+
+enum { CALLS = sizeof calls / sizeof *calls };
+
+static void deepen(size_t *most, task *what, unsigned k) {
+    const size_t depth = stack_of(what, &sides[k], &on[k]);
+    if (depth > *most)
+        *most = depth;
+}
+
+/* The greatest over the sizes: a scan from its start on, then each call with the circuit cut, and with the first kind unknown. */
+static void measure_stack(size_t most[CALLS][SIDES]) {
+    memset(most, 0, CALLS * sizeof *most);
     for (unsigned s = 0; s < SIZES; s++) {
-        full_circuit(&circuits[s], sizes[s]);
-        for (unsigned k = 0; k < CHECKS; k++) {
-            const serifdove_answer a = checks[k](circuits[s].bytes, circuits[s].length);
-            if (a.number != 0 || a.first != sizes[s] || a.second != circuits[s].rows) {
-                printf("bench: the %s refuses the circuit of %u blocks: %zu at %zu\n", names[k], sizes[s], a.number, a.place);
-                exit(2);
+        uint8_t *kind = &circuits[s].bytes[9];
+        const uint8_t before = *kind;
+        begin_on(s, UINT32_MAX);
+        for (unsigned k = 0; k < SIDES; k++)
+            for (unsigned i = 0; i < CALLS; i++) {
+                deepen(&most[i][k], calls[i].what, k);
+                on[k].length--;
+                deepen(&most[i][k], calls[i].what, k);
+                on[k].length++;
+                *kind = 0;
+                deepen(&most[i][k], calls[i].what, k);
+                *kind = before;
             }
-        }
     }
 }
 
-/* ---- time */
-
-static double now(void) {
-    struct timespec t;
-    clock_gettime(CLOCK_MONOTONIC, &t);
-    return (double)t.tv_sec * 1e9 + (double)t.tv_nsec;
-}
-
-static volatile size_t kept;
-
-/* Nanoseconds for each of so many calls. */
-static double time_calls(check_function *check, const circuit *c, unsigned calls) {
-    const double begin = now();
-    for (unsigned i = 0; i < calls; i++)
-        kept = check(c->bytes, c->length).first;
-    return (now() - begin) / calls;
-}
-
-/* So many calls that a round is long enough for the clock. */
-static unsigned calls_for(check_function *check, const circuit *c) {
-    const double one = time_calls(check, c, 16);
-    return one * 16 > ROUND_NANOSECONDS ? 16 : (unsigned)(ROUND_NANOSECONDS / one);
-}
-
-/* The best round of each, the two in turn. */
-static void time_both(const circuit *c, double best[CHECKS]) {
-    const unsigned calls = calls_for(oracle_check, c);
-    for (unsigned round = 0; round < ROUNDS; round++)
-        for (unsigned k = 0; k < CHECKS; k++) {
-            const double took = time_calls(checks[k], c, calls);
-            if (round == 0 || took < best[k])
-                best[k] = took;
-        }
-}
-
-/* ---- stack: a thread on a painted stack of its own, against the same thread with a call that does nothing */
-
-enum { STACK = 1 << 18, PAINT = 0xA5 };
-
-typedef struct {
-    check_function *check;
-    const uint8_t *bytes;
-    size_t length;
-} task;
-
-static serifdove_answer nothing(const uint8_t *circuit, size_t length) {
-    (void)circuit;
-    (void)length;
-    return (serifdove_answer){0, 0, 0, 0};
-}
-
-static void *do_task(void *given) {
-    const task *t = given;
-    kept = t->check(t->bytes, t->length).first;
-    return NULL;
-}
-
-/* How far down the stack was written. */
-static size_t depth_of(check_function *check, const uint8_t *bytes, size_t length) {
-    task t = {check, bytes, length};
-    pthread_attr_t attributes;
-    pthread_t thread;
-    size_t clean = 0;
-    uint8_t *stack = mmap(NULL, STACK, PROT_READ | PROT_WRITE, MAP_PRIVATE | MAP_ANONYMOUS, -1, 0);
-    if (stack == MAP_FAILED)
-        exit(2);
-    memset(stack, PAINT, STACK);
-    pthread_attr_init(&attributes);
-    if (pthread_attr_setstack(&attributes, stack, STACK) != 0 || pthread_create(&thread, &attributes, do_task, &t) != 0)
-        exit(2);
-    pthread_join(thread, NULL);
-    pthread_attr_destroy(&attributes);
-    while (clean < STACK && stack[clean] == PAINT)
-        clean++;
-    munmap(stack, STACK);
-    return STACK - clean;
-}
-
-/* The greatest over the circuits, whole and cut, and each with the first block's kind unknown. */
-static size_t stack_of(check_function *check) {
-    const size_t base = depth_of(nothing, NULL, 0);
-    size_t most = 0;
-    for (unsigned s = 0; s < SIZES; s++) {
-        circuit *c = &circuits[s];
-        const uint8_t kind = c->bytes[9];
-        size_t depths[3];
-        depths[0] = depth_of(check, c->bytes, c->length);
-        depths[1] = depth_of(check, c->bytes, c->length - 1);
-        c->bytes[9] = 0;
-        depths[2] = depth_of(check, c->bytes, c->length);
-        c->bytes[9] = kind;
-        for (unsigned i = 0; i < 3; i++)
-            if (depths[i] > base && depths[i] - base > most)
-                most = depths[i] - base;
+/* Prints the table; gives the archive's greatest. */
+static size_t report_stack(void) {
+    size_t most[CALLS][SIDES], worst = 0;
+    measure_stack(most);
+    printf("| greatest stack, bytes | archive | oracle |\n|---|---|---|\n");
+    for (unsigned i = 0; i < CALLS; i++) {
+        printf("| %s | %zu | %zu |\n", calls[i].name, most[i][ARCHIVE], most[i][ORACLE]);
+        worst = most[i][ARCHIVE] > worst ? most[i][ARCHIVE] : worst;
     }
-    return most;
+    printf("\n");
+    return worst;
 }
 
 /* ---- the whole */
@@ -144,28 +191,18 @@ static size_t stack_of(check_function *check) {
 static const char *reached(bool yes) { return yes ? "reached" : "not reached"; }
 
 int main(void) {
-    double best[SIZES][CHECKS], growth[CHECKS], worst_ratio = 0;
-    size_t stack[CHECKS];
-    make_circuits();
-    printf("| blocks | bytes | archive, ns a call | oracle, ns a call | ratio |\n|---|---|---|---|---|\n");
-    for (unsigned s = 0; s < SIZES; s++) {
-        time_both(&circuits[s], best[s]);
-        const double ratio = best[s][ARCHIVE] / best[s][ORACLE];
-        printf("| %u | %zu | %.0f | %.0f | %.2f |\n", sizes[s], circuits[s].length, best[s][ARCHIVE], best[s][ORACLE], ratio);
-        if (sizes[s] > 0 && ratio > worst_ratio)
-            worst_ratio = ratio;
-    }
-    printf("\n| | archive | oracle |\n|---|---|---|\n");
-    for (unsigned k = 0; k < CHECKS; k++) {
-        growth[k] = best[3][k] / best[1][k];
-        stack[k] = stack_of(checks[k]);
-    }
-    printf("| growth from 100 to 400 blocks | %.2f | %.2f |\n", growth[ARCHIVE], growth[ORACLE]);
-    printf("| greatest stack, bytes | %zu | %zu |\n\n", stack[ARCHIVE], stack[ORACLE]);
+    for (unsigned s = 0; s < SIZES; s++)
+        full_circuit(&circuits[s], sizes[s]);
+    const double check_growth = time_sizes("check", check, 0, 0);
+    time_scans();
+    const double turn_growth = time_sizes("a turn of one block", same_turn, 1, 1);
+    const size_t stack = report_stack();
+    const double growth = check_growth > turn_growth ? check_growth : turn_growth;
     printf("ratio from 100 blocks on at most %.1f: %.2f, %s\n", most_ratio, worst_ratio, reached(worst_ratio <= most_ratio));
-    printf("growth at most %.1f: %.2f, %s\n", most_growth, growth[ARCHIVE], reached(growth[ARCHIVE] <= most_growth));
-    printf("stack at most %d bytes: %zu, %s\n", MOST_STACK, stack[ARCHIVE], reached(stack[ARCHIVE] <= MOST_STACK));
-    if (growth[ARCHIVE] > far_growth || stack[ARCHIVE] > MOST_STACK) {
+    printf("growth from 100 to 400 blocks at most %.1f: check %.2f, a turn %.2f, %s\n", most_growth, check_growth, turn_growth,
+           reached(growth <= most_growth));
+    printf("stack at most %d bytes: %zu, %s\n", MOST_STACK, stack, reached(stack <= MOST_STACK));
+    if (growth > far_growth || stack > MOST_STACK) {
         printf("bench: the stack is too large, or the growth is missed by far\n");
         return 1;
     }

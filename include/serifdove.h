@@ -68,6 +68,88 @@ typedef struct {
    A null pointer with length 0 is an empty circuit. How much stack it was measured to take: docs/PERFORMANCE.md. */
 serifdove_answer serifdove_check(const uint8_t *circuit, size_t length);
 
+/* ---- the run record: what the host keeps between calls, as signed words */
+
+enum serifdove_limit {
+    /* the greatest number of blocks */
+    SERIFDOVE_MOST_BLOCKS = 400,
+    /* how many words latch reads: I1 to I24, then the eight analog inputs */
+    SERIFDOVE_INPUT_WORD_COUNT = 32,
+    /* how many words publish writes: Q1 to Q20, then AQ1 to AQ8 */
+    SERIFDOVE_OUTPUT_WORD_COUNT = 28
+};
+
+/* How many words the record of a circuit with n blocks has. */
+#define SERIFDOVE_RECORD_WORDS(n) (164 + 3 * (n))
+
+/* Where each word of a record stands. A host may look at them between two calls, and may keep a copy of a record and lend that
+   later. What the words may be is judged by each call but cold start (21). */
+enum serifdove_record_word {
+    /* 0 waiting, 1 in a scan: from an accepted latch to an accepted publish */
+    SERIFDOVE_PHASE = 0,
+    /* how many blocks of this scan are worked out; 0 while waiting */
+    SERIFDOVE_DONE = 1,
+    /* 1 from a start to the first publish behind it */
+    SERIFDOVE_MARK = 2,
+    /* e, the ticks that the scan's latch was given; 0 while waiting */
+    SERIFDOVE_E = 3
+};
+
+/* Inputs as the last latch read them, k from 1: I1 to I24 are 0 or 1, analog inputs 1 to 8 are 0 to 1000. */
+#define SERIFDOVE_I(k) (3 + (k))
+#define SERIFDOVE_AI(k) (27 + (k))
+/* Flags as the last publish wrote them, k from 1: M1 to M64 are 0 or 1, AM1 to AM64 are -32,768 to 32,767. */
+#define SERIFDOVE_M(k) (35 + (k))
+#define SERIFDOVE_AM(k) (99 + (k))
+/* The three words of block k, from 1: its output (0 or 1; of a multiplexer -32,768 to 32,767), its remembered bit, and its number
+   (Ta in ticks, or the shift register with bit j weighing 2^(j-1)). A word that the block's kind has no use for is 0. */
+#define SERIFDOVE_BLOCK_OUTPUT(k) (161 + 3 * (k))
+#define SERIFDOVE_BLOCK_REMEMBERED(k) (162 + 3 * (k))
+#define SERIFDOVE_BLOCK_NUMBER(k) (163 + 3 * (k))
+
+/* Where each word of latch's inputs stands, k from 1. */
+#define SERIFDOVE_INPUT_I(k) ((k)-1)
+#define SERIFDOVE_INPUT_AI(k) (23 + (k))
+/* Where each word of publish's outputs stands, k from 1. */
+#define SERIFDOVE_Q(k) ((k)-1)
+#define SERIFDOVE_AQ(k) (19 + (k))
+
+/* ---- the calls on a record
+
+   All five take the circuit, which is judged afresh, and a record of `record_len` words. What is refused, in this order: 1 to 11
+   for the circuit, as by check and with check's place; 20 for a record that has not SERIFDOVE_RECORD_WORDS(n) words; then what
+   stands at the call. The first that holds is answered, and nothing lent changes.
+
+   Lengths count bytes of the circuit and words of the others. A null pointer with length 0 is an empty slice. The slices of one call
+   may not overlap. A call reads and writes nothing outside them, never writes circuit and inputs, and keeps nothing between calls:
+   calls on different records and outputs may run in any number of threads at once. */
+
+/* Begins anew, whatever the record held. Refused by nothing more.
+   Accepted: first and second are 0. All words of the record become 0, but M8 and the mark become 1. */
+serifdove_answer serifdove_cold_start(const uint8_t *circuit, size_t circuit_len, int32_t *record, size_t record_len);
+
+/* Begins anew and keeps what retentive blocks hold. Refused by 21, and by 22 in a scan, also where all blocks are done.
+   Accepted: first and second are 0. The record becomes that of a cold start, but the three words of each retentive block stay. */
+serifdove_answer serifdove_warm_start(const uint8_t *circuit, size_t circuit_len, int32_t *record, size_t record_len);
+
+/* Reads the inputs and opens a scan; e is the ticks of 10 ms since the last latch. Refused by 21, by 22 in a scan, and by 23: not
+   SERIFDOVE_INPUT_WORD_COUNT input words, one of the first 24 not 0 or 1, one of the last 8 not 0 to 1000, or e not 0 to 65,535.
+   Accepted: first and second are 0. The phase becomes 1, and e and the inputs are stored; all other words stay. */
+serifdove_answer serifdove_latch(const uint8_t *circuit, size_t circuit_len, int32_t *record, size_t record_len, const int32_t *inputs,
+                                 size_t inputs_len, int32_t e);
+
+/* Works out the next c blocks of the scan, or those that are left where they are fewer. Refused by 21, and by 22 while waiting.
+   Accepted: first is how many blocks this call worked out, second how many are to go. Their three words each and the blocks-done word
+   change, all other words stay; with c 0 or no block to go, none changes. */
+serifdove_answer serifdove_run(const uint8_t *circuit, size_t circuit_len, int32_t *record, size_t record_len, uint32_t c);
+
+/* Closes the scan. Refused by 21, by 22 while waiting or with blocks to go, and by 24: not SERIFDOVE_OUTPUT_WORD_COUNT output words.
+   Accepted: first and second are 0. Each output word and each flag becomes what its row reads, all at once from the flags as they
+   were, and 0 without a row; M8 becomes 0 where the mark was 1. Then mark, phase, blocks done and e are 0. Inputs and
+   blocks stay. */
+serifdove_answer serifdove_publish(const uint8_t *circuit, size_t circuit_len, int32_t *record, size_t record_len, int32_t *outputs,
+                                   size_t outputs_len);
+
 #ifdef __cplusplus
 }
 #endif

@@ -1,4 +1,4 @@
-/* A second check of circuits, written from document 01 alone: the proved one is compared with it, in answers and in speed. */
+/* A second program, written from document 01 alone: the proved calls are compared with it, in answers, in words and in speed. */
 #ifndef ORACLE_H
 #define ORACLE_H
 
@@ -18,7 +18,14 @@ extern const oracle_limits oracle_limits_of_document_01;
 /* Checks a circuit against these limits. */
 serifdove_answer oracle_check_within(const oracle_limits *limits, const uint8_t *circuit, size_t length);
 
-/* Checks a circuit: what serifdove_check must answer. */
+/* What serifdove_check must answer, and what each call on a record must answer and leave in record and outputs. */
 serifdove_answer oracle_check(const uint8_t *circuit, size_t length);
+serifdove_answer oracle_cold_start(const uint8_t *circuit, size_t circuit_len, int32_t *record, size_t record_len);
+serifdove_answer oracle_warm_start(const uint8_t *circuit, size_t circuit_len, int32_t *record, size_t record_len);
+serifdove_answer oracle_latch(const uint8_t *circuit, size_t circuit_len, int32_t *record, size_t record_len, const int32_t *inputs,
+                              size_t inputs_len, int32_t e);
+serifdove_answer oracle_run(const uint8_t *circuit, size_t circuit_len, int32_t *record, size_t record_len, uint32_t c);
+serifdove_answer oracle_publish(const uint8_t *circuit, size_t circuit_len, int32_t *record, size_t record_len, int32_t *outputs,
+                                size_t outputs_len);
 
 #endif

@@ -4,13 +4,17 @@
 
 /* ---- chance */
 
-chance chance_of(uint64_t seed) { return (chance){seed * 0x9E3779B97F4A7C15u + 0x2545F4914F6CDD1Du}; }
+static uint64_t mixed(uint64_t z) {
+    z = (z ^ z >> 30) * 0xBF58476D1CE4E5B9u;
+    return (z ^ z >> 27) * 0x94D049BB133111EBu;
+}
+
+/* Mixed, so that no seed's numbers are another's from a later place on. */
+chance chance_of(uint64_t seed) { return (chance){mixed(seed + 0x2545F4914F6CDD1Du)}; }
 
 uint32_t below(chance *with, uint32_t bound) {
-    uint64_t z = with->state += 0x9E3779B97F4A7C15u;
-    z = (z ^ z >> 30) * 0xBF58476D1CE4E5B9u;
-    z = (z ^ z >> 27) * 0x94D049BB133111EBu;
-    return (uint32_t)(((z >> 32) * bound) >> 32);
+    with->state += 0x9E3779B97F4A7C15u;
+    return (uint32_t)(((mixed(with->state) >> 32) * bound) >> 32);
 }
 
 bool once_in(chance *with, uint32_t times) { return below(with, times) == 0; }
@@ -24,6 +28,15 @@ int32_t between(chance *with, int32_t least, int32_t greatest) {
     default:
         return least + (int32_t)below(with, (uint32_t)(greatest - least) + 1);
     }
+}
+
+int32_t usual_value(chance *with, int32_t least, int32_t greatest) {
+    static const int32_t usual[] = {0,  1,  3,   10,   99,   100,   101,   333,  500,
+                                    -1, -3, -10, -100, -333, -1000, 32767, 1000, -32768};
+    if (once_in(with, 4))
+        return between(with, least, greatest);
+    const int32_t value = usual[below(with, sizeof usual / sizeof *usual)];
+    return value < least || value > greatest ? least : value;
 }
 
 /* ---- the kinds */
@@ -113,7 +126,16 @@ static uint8_t *add_block(circuit *c, unsigned kind, unsigned options) {
     at[3] = (uint8_t)kind;
     at[4] = (uint8_t)options;
     c->kinds[++c->blocks] = (uint8_t)kind;
+    c->block[c->blocks] = c->place[c->fields - 1];
     return at;
+}
+
+void add_given_block(circuit *c, unsigned kind, unsigned options, const unsigned (*connectors)[2], const int32_t *parameters) {
+    uint8_t *at = add_block(c, kind, options);
+    for (unsigned i = 0; i < inputs_of(kind); i++)
+        put_connector(at + input_at(i), connectors[i][0], connectors[i][1]);
+    for (unsigned i = 0; i < shapes[kind].parameters; i++)
+        put_four(at + parameter_at(kind, i), parameters[i]);
 }
 
 void add_plain_block(circuit *c, unsigned kind) {
@@ -126,6 +148,20 @@ void add_plain_block(circuit *c, unsigned kind) {
         put_four(at + parameter_at(kind, 0), (int32_t)++c->registers);
 }
 
+/* ---- reading */
+
+int32_t parameter_of(const circuit *c, unsigned number, unsigned i) {
+    const uint8_t *at = c->bytes + c->block[number] + parameter_at(c->kinds[number], i);
+    return (int32_t)((uint32_t)at[0] << 24 | (uint32_t)at[1] << 16 | (uint32_t)at[2] << 8 | at[3]);
+}
+
+int32_t ticks_of(const circuit *c, unsigned number) {
+    static const int32_t factor[3] = {1, 100, 6000};
+    return factor[parameter_of(c, number, 0)] * parameter_of(c, number, 1);
+}
+
+int32_t actual_of(int32_t input, int32_t a, int32_t b) { return input * a / 100 + b; }
+
 void destination_of(unsigned k, unsigned *class, unsigned *number) {
     static const unsigned room[5] = {0, 20, 64, 8, 64};
     *class = 1;
@@ -134,13 +170,24 @@ void destination_of(unsigned k, unsigned *class, unsigned *number) {
     *number = k + 1;
 }
 
-/* ---- by chance */
+/* ---- by chance: from all that is allowed, or lively */
+
+/* The number of a connector of this class. */
+static unsigned random_number(chance *with, unsigned class, bool lively) {
+    static const unsigned greatest[10] = {[1] = 24, [4] = 64, [7] = 8, [8] = 64}, few[5] = {1, 2, 3, 4, 8};
+    if (greatest[class] == 0)
+        return 0;
+    if (lively && !once_in(with, 8))
+        return few[below(with, 5)];
+    return (unsigned)between(with, 1, (int32_t)greatest[class]);
+}
 
 /* A connector that is allowed at an input of this sort, or as such a row's source. Blocks up to `blocks` may be named. */
-static void put_random_connector(const circuit *c, chance *with, uint8_t *at, bool digital, bool unused_allowed) {
+static void put_random_connector(const circuit *c, chance *with, uint8_t *at, bool digital, bool unused_allowed, bool lively) {
     static const unsigned digital_classes[] = {6, 1, 2, 3, 4, 0}, analog_classes[] = {9, 7, 8};
-    static const unsigned greatest[10] = {[1] = 24, [4] = 64, [7] = 8, [8] = 64};
     unsigned class = digital ? digital_classes[below(with, unused_allowed ? 6 : 5)] : analog_classes[below(with, 3)];
+    if (lively && (class == 2 || class == 3) && !once_in(with, 4))
+        class = 1;
     if (class == 6 || class == 9) {
         const unsigned named = c->blocks == 0 ? 0 : 1 + below(with, c->blocks);
         if (named != 0 && (c->kinds[named] == 15) == (class == 9)) {
@@ -149,30 +196,69 @@ static void put_random_connector(const circuit *c, chance *with, uint8_t *at, bo
         }
         class = digital ? 1 : 8;
     }
-    const unsigned number = greatest[class] == 0 ? 0 : (unsigned)between(with, 1, (int32_t)greatest[class]);
+    const unsigned number = random_number(with, class, lively);
     put_connector(at, digital && class != 0 && once_in(with, 2) ? class + 0x80 : class, number);
 }
 
-static void put_random_parameters(circuit *c, chance *with, uint8_t *at, unsigned kind) {
+static void random_parameters(chance *with, unsigned kind, int32_t *values) {
     const shape *s = &shapes[kind];
-    int32_t values[4] = {0, 0, 0, 0};
     for (unsigned i = 0; i < s->parameters; i++)
         values[i] = between(with, s->least[i], s->greatest[i]);
     if (is_delay(kind) && values[0] != 0)
         values[1] = between(with, 0, 5999);
-    if (kind == 12)
-        values[0] = (int32_t)++c->registers;
-    for (unsigned i = 0; i < s->parameters; i++)
-        put_four(at + parameter_at(kind, i), values[i]);
 }
 
-static void add_random_block(circuit *c, chance *with, unsigned kind) {
+static int32_t held_to(int32_t value, int32_t least, int32_t greatest) {
+    return value < least ? least : value > greatest ? greatest : value;
+}
+
+/* On and Off, or Δ, near the actual values of usual inputs. */
+static void lively_thresholds(chance *with, unsigned kind, int32_t *values) {
+    static const int32_t gains[] = {-1000, -101, -100, -99, -33, -1, 0, 1, 7, 33, 99, 100, 101, 1000};
+    const int32_t a = gains[below(with, sizeof gains / sizeof *gains)];
+    const int32_t b = once_in(with, 2) ? 0 : once_in(with, 4) ? between(with, -10000, 10000) : between(with, -10, 10);
+    int32_t met[2];
+    for (unsigned i = 0; i < 2; i++) {
+        met[i] = actual_of(usual_value(with, 0, 1000), a, b) + between(with, -1, 1);
+        if (kind == 14)
+            met[i] -= actual_of(usual_value(with, 0, 1000), a, b);
+        met[i] = held_to(met[i], -20000, 20000);
+    }
+    const int32_t off = once_in(with, 3) ? held_to(met[0] + between(with, -2, 2), -20000, 20000) : met[1];
+    values[0] = a;
+    values[1] = b;
+    values[2] = met[0];
+    values[3] = kind == 16 ? held_to(off - met[0], -20000, 20000) : off;
+}
+
+static void lively_parameters(chance *with, unsigned kind, int32_t *values) {
+    random_parameters(with, kind, values);
+    if (is_delay(kind) && !once_in(with, 8)) {
+        values[0] = (int32_t)(once_in(with, 3) ? below(with, 3) : 0);
+        values[1] = between(with, 0, values[0] == 0 ? 12 : 3);
+    }
+    if (kind == 15)
+        for (unsigned i = 0; i < 4; i++)
+            values[i] = usual_value(with, -32768, 32767);
+    if (kind == 13 || kind == 14 || kind == 16)
+        lively_thresholds(with, kind, values);
+}
+
+static void add_random_block(circuit *c, chance *with, unsigned kind, bool lively) {
     uint8_t connectors[4][3];
+    int32_t values[4] = {0, 0, 0, 0};
     for (unsigned i = 0; i < inputs_of(kind); i++)
-        put_random_connector(c, with, connectors[i], shapes[kind].inputs[i] == 'd', true);
+        put_random_connector(c, with, connectors[i], shapes[kind].inputs[i] == 'd', true, lively);
     uint8_t *at = add_block(c, kind, shapes[kind].retentive ? below(with, 2) : 0);
     memcpy(at + input_at(0), connectors, 3 * inputs_of(kind));
-    put_random_parameters(c, with, at, kind);
+    if (lively)
+        lively_parameters(with, kind, values);
+    else
+        random_parameters(with, kind, values);
+    if (kind == 12)
+        values[0] = (int32_t)++c->registers;
+    for (unsigned i = 0; i < shapes[kind].parameters; i++)
+        put_four(at + parameter_at(kind, i), values[i]);
 }
 
 static void add_random_label(circuit *c, chance *with) {
@@ -183,34 +269,59 @@ static void add_random_label(circuit *c, chance *with) {
     add_label(c, text, length);
 }
 
+enum { FEW = 17 };
+
+/* Puts the few destinations first that lively circuits use most: M1 to M4 and M8, AM likewise, and ends of each class. */
+static void few_first(unsigned *order) {
+    static const unsigned few[FEW] = {20, 21, 22, 23, 27, 92, 93, 94, 95, 99, 0, 1, 19, 83, 84, 91, 155};
+    for (unsigned i = 0; i < FEW; i++) {
+        unsigned at = i;
+        while (order[at] != few[i])
+            at++;
+        order[at] = order[i];
+        order[i] = few[i];
+    }
+}
+
 /* So many rows, each with a destination of its own. */
-static void add_random_rows(circuit *c, chance *with, unsigned rows) {
+static void add_random_rows(circuit *c, chance *with, unsigned rows, bool lively) {
     unsigned order[DESTINATIONS];
     for (unsigned k = 0; k < DESTINATIONS; k++)
         order[k] = k;
+    if (lively)
+        few_first(order);
     for (unsigned k = 0; k < rows; k++) {
-        const unsigned other = k + below(with, DESTINATIONS - k), taken = order[other];
+        const bool of_few = lively && k < FEW && !once_in(with, 4);
+        const unsigned other = k + below(with, (of_few ? FEW : DESTINATIONS) - k), taken = order[other];
         unsigned class, number;
         order[other] = order[k];
         order[k] = taken;
         destination_of(taken, &class, &number);
         add_row(c, class, number, 0, 0);
-        put_random_connector(c, with, c->bytes + c->length - 3, class <= 2, false);
+        put_random_connector(c, with, c->bytes + c->length - 3, class <= 2, false, lively);
     }
 }
 
-void random_circuit(circuit *c, chance *with, unsigned n, unsigned rows, unsigned last_kind) {
+static void make_circuit(circuit *c, chance *with, unsigned n, unsigned rows, unsigned last_kind, bool lively) {
     begin_circuit(c, n);
     for (unsigned k = 1; k <= n; k++) {
         unsigned kind = k == n && last_kind != 0 ? last_kind : 1 + below(with, KINDS);
         if (kind == 12 && c->registers == 4)
             kind = 15;
-        add_random_block(c, with, kind);
+        add_random_block(c, with, kind, lively);
         if (once_in(with, 2))
             add_random_label(c, with);
     }
-    add_random_rows(c, with, rows);
+    add_random_rows(c, with, rows, lively);
     end_circuit(c);
+}
+
+void random_circuit(circuit *c, chance *with, unsigned n, unsigned rows, unsigned last_kind) {
+    make_circuit(c, with, n, rows, last_kind, false);
+}
+
+void lively_circuit(circuit *c, chance *with, unsigned n, unsigned rows, unsigned last_kind) {
+    make_circuit(c, with, n, rows, last_kind, true);
 }
 
 /* ---- the bench's circuits */

@@ -28,6 +28,9 @@ uint32_t below(chance *with, uint32_t bound);                   /* 0 to bound - 
 bool once_in(chance *with, uint32_t times);                     /* true once in so many times */
 int32_t between(chance *with, int32_t least, int32_t greatest); /* both ends are often met */
 
+/* An analog value in this range, most often one of a few: so thresholds and what they judge meet. */
+int32_t usual_value(chance *with, int32_t least, int32_t greatest);
+
 /* ---- the kinds as the tests see them */
 
 typedef struct {
@@ -53,6 +56,7 @@ typedef struct {
     unsigned fields;
     size_t place[MOST_FIELDS];      /* where each field begins */
     uint8_t kinds[MOST_BLOCKS + 1]; /* of each block, by number */
+    size_t block[MOST_BLOCKS + 1];  /* where each block begins, by number */
     unsigned blocks, registers;     /* so far; a register's index is its count */
 } circuit;
 
@@ -64,14 +68,24 @@ void add_label(circuit *c, const uint8_t *text, size_t length);
 void add_row(circuit *c, unsigned class, unsigned number, unsigned source, unsigned source_number);
 void end_circuit(circuit *c);
 
+/* A block with these connectors, class bytes and numbers in turn, and these parameters. */
+void add_given_block(circuit *c, unsigned kind, unsigned options, const unsigned (*connectors)[2], const int32_t *parameters);
+
 /* A block whose inputs are I1 or analog input 1 and whose parameters are allowed; a register takes the next index. */
 void add_plain_block(circuit *c, unsigned kind);
+
+int32_t parameter_of(const circuit *c, unsigned number, unsigned i); /* parameter i of this block */
+int32_t ticks_of(const circuit *c, unsigned number);                 /* T of this delay */
+int32_t actual_of(int32_t input, int32_t a, int32_t b);              /* the actual value */
 
 /* The class and number of destination k, from 0: Q, M, AQ, AM in turn. */
 void destination_of(unsigned k, unsigned *class, unsigned *number);
 
 /* An accepted circuit with n blocks and so many rows, all else by chance; the last block has this kind, if it is not 0. */
 void random_circuit(circuit *c, chance *with, unsigned n, unsigned rows, unsigned last_kind);
+
+/* Likewise, with few inputs and flags, short settings, and thresholds near what they judge: in its scans much happens. */
+void lively_circuit(circuit *c, chance *with, unsigned n, unsigned rows, unsigned last_kind);
 
 /* An accepted circuit with n blocks, all kinds in turn, labels of 16 bytes, and a row for each destination if there are blocks.
    Each block names the one before it where the sort allows. There are four shift registers; OR stands for further ones. */

@@ -4,20 +4,17 @@
    compare --self-test NAME    one of the two is made wrong in the way named; this must be found
 
    A slice stands in memory that cannot be written, its end or its beginning at a page that cannot be read. */
-#define _GNU_SOURCE
+#define _POSIX_C_SOURCE 200809L
 #include "circuits.h"
 #include "constructed.h"
+#include "guarded.h"
 #include "oracle.h"
-#include "serifdove.h"
+#include "sides.h"
 
-#include <signal.h>
 #include <stdio.h>
 #include <stdlib.h>
 #include <string.h>
-#include <sys/mman.h>
 #include <unistd.h>
-
-typedef serifdove_answer check_function(const uint8_t *circuit, size_t length);
 
 static check_function *proved = serifdove_check, *reference = oracle_check;
 
@@ -38,31 +35,9 @@ static uint64_t all_compared(void) {
     return sum;
 }
 
-/* ---- the slice: one memory mapped twice, to write and to lend */
+enum { ROOM = 1 << 17 };
 
-enum { ROOM = 1 << 17, GUARD = 1 << 16 };
-
-static uint8_t *writable, *lent;
-
-static void *mapped(void *at, size_t size, int protection, int flags, int file) {
-    void *memory = mmap(at, size, protection, flags, file, 0);
-    if (memory == MAP_FAILED) {
-        perror("compare: mmap");
-        exit(2);
-    }
-    return memory;
-}
-
-static void map_slice(void) {
-    const int file = memfd_create("slice", 0);
-    if (file < 0 || ftruncate(file, ROOM) != 0) {
-        perror("compare: memfd_create");
-        exit(2);
-    }
-    writable = mapped(NULL, ROOM, PROT_READ | PROT_WRITE, MAP_SHARED, file);
-    uint8_t *guarded = mapped(NULL, GUARD + ROOM + GUARD, PROT_NONE, MAP_PRIVATE | MAP_ANONYMOUS, -1);
-    lent = mapped(guarded + GUARD, ROOM, PROT_READ, MAP_SHARED | MAP_FIXED, file);
-}
+static guarded slice;
 
 /* ---- telling a mismatch */
 
@@ -79,10 +54,6 @@ static void print_circuit(void) {
     for (size_t i = 0; i < now_length; i++)
         printf(" %02X", now_bytes[i]);
     printf("\n");
-}
-
-static bool same(serifdove_answer a, serifdove_answer b) {
-    return a.number == b.number && a.place == b.place && a.first == b.first && a.second == b.second;
 }
 
 static void fail(const char *what, const char *who, serifdove_answer got, const char *other, serifdove_answer want) {
@@ -105,9 +76,9 @@ static void on_fault(int signal) {
 /* ---- comparing */
 
 static serifdove_answer lend(check_function *check, size_t offset) {
-    memcpy(writable + offset, now_bytes, now_length);
-    const serifdove_answer answer = check(lent + offset, now_length);
-    if (memcmp(writable + offset, now_bytes, now_length) != 0)
+    memcpy(slice.own + offset, now_bytes, now_length);
+    const serifdove_answer answer = check(slice.lent + offset, now_length);
+    if (memcmp(slice.own + offset, now_bytes, now_length) != 0)
         fail("the slice has changed", "answer", answer, "answer", answer);
     return answer;
 }
@@ -118,12 +89,12 @@ static serifdove_answer compare(int sort, const char *name, const uint8_t *bytes
     now_bytes = bytes;
     now_length = length;
     const serifdove_answer want = lend(reference, ROOM - length), got = lend(proved, ROOM - length);
-    if (!same(got, want))
+    if (!same_answer(got, want))
         fail("end at the guard page", "proved", got, "oracle", want);
     calls++;
     if (length < 1024 || sort == CONSTRUCTED || sort == VALID) {
         const serifdove_answer again = lend(proved, 0);
-        if (!same(again, want))
+        if (!same_answer(again, want))
             fail("beginning at the guard page", "proved", again, "oracle", want);
         calls++;
     }
@@ -136,14 +107,14 @@ static serifdove_answer compare(int sort, const char *name, const uint8_t *bytes
 
 static void compare_known(const char *name, const uint8_t *bytes, size_t length, serifdove_answer want) {
     const serifdove_answer got = compare(CONSTRUCTED, name, bytes, length);
-    if (!same(got, want))
+    if (!same_answer(got, want))
         fail("not what was constructed", "both", got, "known", want);
 }
 
 static void compare_null(void) {
     now_name = "null pointer";
     const serifdove_answer want = {1, 0, 0, 0}, got = proved(NULL, 0);
-    if (!same(got, want))
+    if (!same_answer(got, want))
         fail("null pointer", "proved", got, "known", want);
 }
 
@@ -154,7 +125,7 @@ static circuit made;
 static void compare_valid(chance *with, unsigned n, unsigned rows, unsigned last_kind) {
     random_circuit(&made, with, n, rows, last_kind);
     const serifdove_answer want = {0, 0, n, rows}, got = compare(VALID, "valid", made.bytes, made.length);
-    if (!same(got, want))
+    if (!same_answer(got, want))
         fail("a valid circuit", "both", got, "known", want);
     for (unsigned k = 1; k <= n; k++)
         blocks_of_kind[made.kinds[k]]++;
@@ -531,9 +502,8 @@ int main(int words, char **word) {
         count = words > 2 ? strtoull(word[2], NULL, 0) : count;
     }
     chance with = chance_of(seed);
-    map_slice();
-    signal(SIGSEGV, on_fault);
-    signal(SIGBUS, on_fault);
+    slice = guarded_memory(ROOM, true);
+    on_touch(on_fault);
     printf("compare: seed %llu\n", (unsigned long long)seed);
     once(&with);
     for (unsigned round = 0; all_compared() < count || round < KINDS; round++)

@@ -4,17 +4,7 @@
 source "$(dirname "${BASH_SOURCE[0]}")/host.bash"
 need_c
 need_archive
-build_c "$work/compare" tests/compare.c tests/constructed.c tests/circuits.c oracle/oracle.c
+build_c "$work/compare" tests/compare.c tests/guarded.c tests/sides.c tests/constructed.c tests/circuits.c $oracle
 
-for wrong in wrong_place wrong_rows reads_behind reads_before writes; do
-    run "$work/compare" --self-test $wrong >"$work/found" 2>&1
-    status=$?
-    if [ "$status" -ne 1 ] || ! grep -q '^compare: mismatch: ' "$work/found"; then
-        echo "compare: self-test $wrong: not found (status $status)"
-        cut -c1-200 "$work/found"
-        exit 1
-    fi
-    echo "compare: self-test $wrong: found"
-done
-
+finds "$work/compare" 'compare: mismatch: ' wrong_place wrong_rows reads_behind reads_before writes
 run "$work/compare" "$@"

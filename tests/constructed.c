@@ -421,7 +421,7 @@ static const char *read_text(const char *text, char closing) {
     return text + 1;
 }
 
-static void each_named(known_visitor *visit) {
+void each_named(known_visitor *visit) {
     for (size_t i = 0; i < sizeof cases / sizeof *cases; i++) {
         const named_case *c = &cases[i];
         length = marked = 0;

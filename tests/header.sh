@@ -1,5 +1,5 @@
 #!/usr/bin/env bash
-# The header alone, as C11 and as C++17; then a host in each that links the archive and checks document 01's circuit.
+# The header alone, as C11 and as C++17; then a host in each that links the archive, checks document 01's circuit and runs it for a scan.
 source "$(dirname "${BASH_SOURCE[0]}")/host.bash"
 need_c
 need_cxx

@@ -7,6 +7,7 @@ trap 'rm -rf "$work"' EXIT
 
 warnings="-Wall -Wextra -Werror -pedantic"
 archive=${SERIFDOVE_ARCHIVE:-target/staticlib/libserifdove.a}
+oracle="oracle/check.c oracle/rules.c oracle/scan.c"
 if [ "$(uname -m)" = x86_64 ]; then
     emulated=no
     cc=gcc cxx=g++
@@ -82,4 +83,19 @@ build_cxx() {
 # run PROGRAM WORD..
 run() {
     "${runner[@]}" "$@"
+}
+
+# finds PROGRAM MISMATCH NAME..: by `--self-test NAME` the program is told to meet a fault; it must print a line that begins so, with status 1
+finds() {
+    local name status
+    for name in "${@:3}"; do
+        run "$1" --self-test "$name" >"$work/found" 2>&1
+        status=$?
+        if [ "$status" -ne 1 ] || ! grep -q "^$2" "$work/found"; then
+            echo "${1##*/}: self-test $name: not found (status $status)"
+            cut -c1-200 "$work/found"
+            exit 1
+        fi
+        echo "${1##*/}: self-test $name: found"
+    done
 }

@@ -185,4 +185,5 @@ def main():
         f.write("".join(" ".join([case[0]] + [str(number) for number in case[2:]]) + "\n" for case in cases))
 
 
-main()
+if __name__ == "__main__":
+    main()

@@ -1,11 +1,8 @@
 /* Each field is decoded into a struct; then all numbers that hold for it are collected in a set, and the lowest is taken.
    A field without a fault is added to what is known of the circuit. */
-#include "oracle.h"
+#include "circuit.h"
 
-#include <stdbool.h>
 #include <string.h>
-
-enum { MOST_BLOCKS = 400, MOST_OF_A_DESTINATION = 64, MOST_INPUTS = 4, MOST_PARAMETERS = 4 };
 
 const oracle_limits oracle_limits_of_document_01 = {.n = 400, .q = 20, .aq = 8, .m = 64, .am = 64};
 
@@ -26,49 +23,33 @@ static unsigned lowest(set s) {
     return k;
 }
 
-/* ---- bytes, the high one first */
-
-static unsigned two_at(const uint8_t *bytes) { return (unsigned)bytes[0] << 8 | bytes[1]; }
-
-static int32_t four_at(const uint8_t *bytes) { return (int32_t)((uint32_t)two_at(bytes) << 16 | two_at(bytes + 2)); }
-
 /* ---- the kinds */
-
-typedef struct {
-    int32_t least, greatest;
-} range;
 
 #define GAIN {-1000, 1000}
 #define OFFSET {-10000, 10000}
 #define THRESHOLD {-20000, 20000}
 #define VALUE {-32768, 32767}
 
-typedef struct {
-    unsigned digital, analog;      /* inputs of each sort; no kind has both */
-    unsigned parameters;           /* how many */
-    range ranges[MOST_PARAMETERS]; /* of each; T may go to 9999 in base 0 only */
-    bool retentive;                /* option bit 0 is allowed */
-} kind_rule;
+#define SETTING {0, 2}, {0, 9999}
+#define THRESHOLDS GAIN, OFFSET, THRESHOLD, THRESHOLD
 
-enum { KINDS = 16, ON_DELAY = 9, OFF_DELAY = 10, SHIFT_REGISTER = 12, MULTIPLEXER = 15 };
-
-static const kind_rule kind_rules[KINDS + 1] = {
-    [1] = {.digital = 4},
-    [2] = {.digital = 4},
-    [3] = {.digital = 4},
-    [4] = {.digital = 4},
-    [5] = {.digital = 4},
-    [6] = {.digital = 4},
-    [7] = {.digital = 2},
-    [8] = {.digital = 1},
-    [ON_DELAY] = {.digital = 1, .parameters = 2, .ranges = {{0, 2}, {0, 9999}}, .retentive = true},
-    [OFF_DELAY] = {.digital = 2, .parameters = 2, .ranges = {{0, 2}, {0, 9999}}, .retentive = true},
-    [11] = {.digital = 2, .retentive = true},
-    [SHIFT_REGISTER] = {.digital = 3, .parameters = 2, .ranges = {{1, 4}, {1, 8}}, .retentive = true},
-    [13] = {.analog = 1, .parameters = 4, .ranges = {GAIN, OFFSET, THRESHOLD, THRESHOLD}},
-    [14] = {.analog = 2, .parameters = 4, .ranges = {GAIN, OFFSET, THRESHOLD, THRESHOLD}},
+const kind_rule oracle_kind_rules[KINDS + 1] = {
+    [AND] = {.digital = 4},
+    [AND_EDGE] = {.digital = 4, .remembers = true},
+    [NAND] = {.digital = 4},
+    [NAND_EDGE] = {.digital = 4, .remembers = true},
+    [OR] = {.digital = 4},
+    [NOR] = {.digital = 4},
+    [XOR] = {.digital = 2},
+    [NOT] = {.digital = 1},
+    [ON_DELAY] = {.digital = 1, .parameters = 2, .ranges = {SETTING}, .retentive = true, .remembers = true},
+    [OFF_DELAY] = {.digital = 2, .parameters = 2, .ranges = {SETTING}, .retentive = true, .remembers = true},
+    [LATCHING_RELAY] = {.digital = 2, .retentive = true},
+    [SHIFT_REGISTER] = {.digital = 3, .parameters = 2, .ranges = {{1, 4}, {1, 8}}, .retentive = true, .remembers = true},
+    [THRESHOLD_TRIGGER] = {.analog = 1, .parameters = 4, .ranges = {THRESHOLDS}},
+    [COMPARATOR] = {.analog = 2, .parameters = 4, .ranges = {THRESHOLDS}},
     [MULTIPLEXER] = {.digital = 3, .parameters = 4, .ranges = {VALUE, VALUE, VALUE, VALUE}},
-    [16] = {.analog = 1, .parameters = 4, .ranges = {GAIN, OFFSET, THRESHOLD, THRESHOLD}},
+    [DIFFERENTIAL_TRIGGER] = {.analog = 1, .parameters = 4, .ranges = {THRESHOLDS}},
 };
 
 static bool is_known_kind(unsigned kind) { return 1 <= kind && kind <= KINDS; }
@@ -87,21 +68,10 @@ typedef struct {
 } field;
 
 typedef struct {
-    unsigned class; /* without inversion */
-    bool inverted;
-    unsigned number;
-} connector;
-
-typedef struct {
     unsigned kind, options;
     connector inputs[MOST_INPUTS];
     int32_t parameters[MOST_PARAMETERS];
 } block;
-
-typedef struct {
-    unsigned class, number; /* of the destination */
-    connector source;
-} row;
 
 /* The field at `place`; false where the slice ends before it does. */
 static bool field_at(const uint8_t *circuit, size_t length, size_t place, field *f) {
@@ -112,10 +82,6 @@ static bool field_at(const uint8_t *circuit, size_t length, size_t place, field 
     f->length = two_at(circuit + place + 1);
     f->content = circuit + place + 3;
     return f->length <= left - 3;
-}
-
-static connector connector_at(const uint8_t *bytes) {
-    return (connector){.class = bytes[0] & 0x7Fu, .inverted = bytes[0] >= 0x80, .number = two_at(bytes + 1)};
 }
 
 /* The block in a content that has its kind's length. */
@@ -129,30 +95,13 @@ static void decode_block(const kind_rule *rule, const uint8_t *content, block *b
         b->parameters[i] = four_at(at);
 }
 
-static row row_at(const uint8_t *content) {
-    return (row){.class = content[0], .number = content[1], .source = connector_at(content + 2)};
-}
-
-/* ---- what is known of the circuit from the fields so far */
-
-typedef struct {
-    const oracle_limits *limits;
-    bool has_header, behind_block;
-    unsigned n, blocks, rows;
-    uint8_t kinds[MOST_BLOCKS + 1]; /* of the blocks so far, by number */
-    set indexes;                    /* of the shift registers so far */
-    bool used[5][MOST_OF_A_DESTINATION + 1];
-} circuit_so_far;
-
 /* ---- connectors: numbers 6 and 7 */
-
-enum { UNUSED, INPUT, LO, HI, FLAG, DIGITAL_BLOCK = 6, ANALOG_INPUT, ANALOG_FLAG, ANALOG_BLOCK };
 
 #define DIGITAL_CLASSES (ONE(INPUT) | ONE(LO) | ONE(HI) | ONE(FLAG) | ONE(DIGITAL_BLOCK))
 #define ANALOG_CLASSES (ONE(ANALOG_INPUT) | ONE(ANALOG_FLAG) | ONE(ANALOG_BLOCK))
 #define BLOCK_CLASSES (ONE(DIGITAL_BLOCK) | ONE(ANALOG_BLOCK))
 
-static bool number_fits(const circuit_so_far *so_far, connector c) {
+static bool number_fits(const known_circuit *so_far, connector c) {
     switch (c.class) {
     case UNUSED:
     case LO:
@@ -175,14 +124,14 @@ static bool number_fits(const circuit_so_far *so_far, connector c) {
 }
 
 /* Whether an earlier block is not of the sort that the connector's class says. */
-static bool wrong_sort(const circuit_so_far *so_far, connector c) {
+static bool wrong_sort(const known_circuit *so_far, connector c) {
     const bool analog = so_far->kinds[c.number] == MULTIPLEXER;
     return analog != (c.class == ANALOG_BLOCK);
 }
 
 /* The numbers that hold for a connector where the classes `taken` are allowed. A block that is not there yet is an own or a later
    one; at a row all are there. */
-static set connector_numbers(const circuit_so_far *so_far, connector c, set taken, bool sort_judged) {
+static set connector_numbers(const known_circuit *so_far, connector c, set taken, bool sort_judged) {
     const bool fits = number_fits(so_far, c);
     const bool names_block = has(BLOCK_CLASSES, c.class);
     const bool earlier = fits && names_block && c.number <= so_far->blocks;
@@ -193,7 +142,7 @@ static set connector_numbers(const circuit_so_far *so_far, connector c, set take
 
 /* ---- blocks */
 
-static set input_numbers(const circuit_so_far *so_far, const kind_rule *rule, const block *b) {
+static set input_numbers(const known_circuit *so_far, const kind_rule *rule, const block *b) {
     set held = 0;
     for (unsigned i = 0; i < rule->digital; i++)
         held |= connector_numbers(so_far, b->inputs[i], DIGITAL_CLASSES | ONE(UNUSED), true);
@@ -211,13 +160,13 @@ static bool parameters_fit(const kind_rule *rule, const block *b) {
     return true;
 }
 
-static set block_numbers(const circuit_so_far *so_far, const field *f, block *b) {
+static set block_numbers(const known_circuit *so_far, const field *f, block *b) {
     set held = when(!so_far->has_header || so_far->rows > 0, 2) | when(so_far->blocks == so_far->n, 4);
     if (f->length == 0)
         return held | ONE(2);
     if (!is_known_kind(f->content[0]))
         return held | ONE(5);
-    const kind_rule *rule = &kind_rules[f->content[0]];
+    const kind_rule *rule = &oracle_kind_rules[f->content[0]];
     if (f->length != content_length(rule))
         return held | ONE(2);
     decode_block(rule, f->content, b);
@@ -228,16 +177,15 @@ static set block_numbers(const circuit_so_far *so_far, const field *f, block *b)
     return held;
 }
 
-static void add_block(circuit_so_far *so_far, const block *b) {
+static void add_block(known_circuit *so_far, const field *f, const block *b) {
     so_far->blocks++;
     so_far->kinds[so_far->blocks] = (uint8_t)b->kind;
+    so_far->contents[so_far->blocks] = f->content;
     if (b->kind == SHIFT_REGISTER)
         so_far->indexes |= ONE(b->parameters[0]);
 }
 
 /* ---- rows */
-
-enum { Q = 1, M, AQ, AM };
 
 /* How many destinations the class has; 0 for an unknown class. */
 static unsigned destinations(const oracle_limits *limits, unsigned class) {
@@ -255,7 +203,7 @@ static unsigned destinations(const oracle_limits *limits, unsigned class) {
     }
 }
 
-static set source_numbers(const circuit_so_far *so_far, const row *r) {
+static set source_numbers(const known_circuit *so_far, const row *r) {
     if (r->class == Q || r->class == M)
         return connector_numbers(so_far, r->source, DIGITAL_CLASSES, true);
     if (r->class == AQ || r->class == AM)
@@ -263,7 +211,7 @@ static set source_numbers(const circuit_so_far *so_far, const row *r) {
     return connector_numbers(so_far, r->source, DIGITAL_CLASSES | ANALOG_CLASSES, false);
 }
 
-static set row_numbers(const circuit_so_far *so_far, const field *f, row *r) {
+static set row_numbers(const known_circuit *so_far, const field *f, row *r) {
     set held = when(!so_far->has_header, 2) | when(so_far->blocks < so_far->n, 4);
     if (f->length != 5)
         return held | ONE(2);
@@ -272,31 +220,33 @@ static set row_numbers(const circuit_so_far *so_far, const field *f, row *r) {
     return held | source_numbers(so_far, r) | when(!known || so_far->used[r->class][r->number], 9);
 }
 
-static void add_row(circuit_so_far *so_far, const row *r) {
+static void add_row(known_circuit *so_far, const field *f, const row *r) {
+    if (so_far->rows == 0)
+        so_far->first_row = f->content;
     so_far->rows++;
     so_far->used[r->class][r->number] = true;
 }
 
 /* ---- header, label, end */
 
-static set header_numbers(const circuit_so_far *so_far, const field *f) {
+static set header_numbers(const known_circuit *so_far, const field *f) {
     if (so_far->has_header || f->length != 3)
         return ONE(2);
     return when(f->content[0] != 1, 3) | when(two_at(f->content + 1) > so_far->limits->n, 4);
 }
 
-static set label_numbers(const circuit_so_far *so_far, const field *f) {
+static set label_numbers(const known_circuit *so_far, const field *f) {
     return when(!so_far->behind_block || f->length > 16, 2);
 }
 
-static set end_numbers(const circuit_so_far *so_far, const field *f) {
+static set end_numbers(const known_circuit *so_far, const field *f) {
     return when(!so_far->has_header || f->length != 0, 2) | when(so_far->blocks < so_far->n, 4);
 }
 
 /* ---- the circuit */
 
 /* The numbers that hold for the field. If there are none, the field is added to what is known. */
-static set judge(circuit_so_far *so_far, const field *f) {
+static set judge(known_circuit *so_far, const field *f) {
     set held = ONE(2);
     block b;
     row r;
@@ -311,7 +261,7 @@ static set judge(circuit_so_far *so_far, const field *f) {
     case BLOCK:
         held = block_numbers(so_far, f, &b);
         if (held == 0)
-            add_block(so_far, &b);
+            add_block(so_far, f, &b);
         break;
     case LABEL:
         held = label_numbers(so_far, f);
@@ -319,7 +269,7 @@ static set judge(circuit_so_far *so_far, const field *f) {
     case ROW:
         held = row_numbers(so_far, f, &r);
         if (held == 0)
-            add_row(so_far, &r);
+            add_row(so_far, f, &r);
         break;
     case END:
         held = end_numbers(so_far, f);
@@ -329,27 +279,36 @@ static set judge(circuit_so_far *so_far, const field *f) {
     return held;
 }
 
-static serifdove_answer refused(unsigned number, size_t place) {
-    return (serifdove_answer){.number = number, .place = place, .first = 0, .second = 0};
+/* Nothing is known yet; kinds and contents are filled in as blocks come. */
+static void begin(known_circuit *so_far, const oracle_limits *limits) {
+    so_far->limits = limits;
+    so_far->has_header = so_far->behind_block = false;
+    so_far->n = so_far->blocks = so_far->rows = 0;
+    so_far->indexes = 0;
+    so_far->first_row = NULL;
+    memset(so_far->used, 0, sizeof so_far->used);
 }
 
-serifdove_answer oracle_check_within(const oracle_limits *limits, const uint8_t *circuit, size_t length) {
-    circuit_so_far so_far;
+serifdove_answer oracle_judge(known_circuit *so_far, const oracle_limits *limits, const uint8_t *circuit, size_t length) {
     size_t place = 0;
     field f;
-    memset(&so_far, 0, sizeof so_far);
-    so_far.limits = limits;
+    begin(so_far, limits);
     do {
         if (!field_at(circuit, length, place, &f))
             return refused(1, place);
-        const set held = judge(&so_far, &f);
+        const set held = judge(so_far, &f);
         if (held != 0)
             return refused(lowest(held), place);
         place += 3 + f.length;
     } while (f.tag != END);
     if (place < length)
         return refused(11, place);
-    return (serifdove_answer){.number = 0, .place = 0, .first = so_far.n, .second = so_far.rows};
+    return accepted(so_far->n, so_far->rows);
+}
+
+serifdove_answer oracle_check_within(const oracle_limits *limits, const uint8_t *circuit, size_t length) {
+    known_circuit so_far;
+    return oracle_judge(&so_far, limits, circuit, length);
 }
 
 serifdove_answer oracle_check(const uint8_t *circuit, size_t length) {

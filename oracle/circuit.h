@@ -1,0 +1,111 @@
+/* What the parts of the oracle share: bytes, the kinds, and what judging a circuit finds out about it. */
+#ifndef ORACLE_CIRCUIT_H
+#define ORACLE_CIRCUIT_H
+
+#include "oracle.h"
+
+#include <stdbool.h>
+
+enum { MOST_BLOCKS = 400, MOST_OF_A_DESTINATION = 64, MOST_INPUTS = 4, MOST_PARAMETERS = 4 };
+
+/* ---- bytes, the high one first */
+
+static inline unsigned two_at(const uint8_t *bytes) { return (unsigned)bytes[0] << 8 | bytes[1]; }
+
+static inline int32_t four_at(const uint8_t *bytes) { return (int32_t)((uint32_t)two_at(bytes) << 16 | two_at(bytes + 2)); }
+
+/* ---- the kinds */
+
+enum {
+    AND = 1,
+    AND_EDGE,
+    NAND,
+    NAND_EDGE,
+    OR,
+    NOR,
+    XOR,
+    NOT,
+    ON_DELAY,
+    OFF_DELAY,
+    LATCHING_RELAY,
+    SHIFT_REGISTER,
+    THRESHOLD_TRIGGER,
+    COMPARATOR,
+    MULTIPLEXER,
+    DIFFERENTIAL_TRIGGER,
+    KINDS = 16
+};
+
+typedef struct {
+    int32_t least, greatest;
+} range;
+
+typedef struct {
+    unsigned digital, analog;      /* inputs of each sort; no kind has both */
+    unsigned parameters;           /* how many */
+    range ranges[MOST_PARAMETERS]; /* of each; T may go to 9999 in base 0 only */
+    bool retentive;                /* option bit 0 is allowed */
+    bool remembers;                /* the second word of the block is in use */
+} kind_rule;
+
+extern const kind_rule oracle_kind_rules[KINDS + 1];
+
+/* A block's parameter i, from 0, in its content. */
+static inline int32_t parameter_at(const kind_rule *rule, const uint8_t *content, unsigned i) {
+    return four_at(content + 2 + 3 * (rule->digital + rule->analog) + 4 * i);
+}
+
+/* ---- connectors and destinations */
+
+enum { UNUSED, INPUT, LO, HI, FLAG, DIGITAL_BLOCK = 6, ANALOG_INPUT, ANALOG_FLAG, ANALOG_BLOCK };
+
+typedef struct {
+    unsigned class; /* without inversion */
+    bool inverted;
+    unsigned number;
+} connector;
+
+static inline connector connector_at(const uint8_t *bytes) {
+    return (connector){.class = bytes[0] & 0x7Fu, .inverted = bytes[0] >= 0x80, .number = two_at(bytes + 1)};
+}
+
+enum { Q = 1, M, AQ, AM };
+
+typedef struct {
+    unsigned class, number; /* of the destination */
+    connector source;
+} row;
+
+static inline row row_at(const uint8_t *content) {
+    return (row){.class = content[0], .number = content[1], .source = connector_at(content + 2)};
+}
+
+/* ---- what is known of the circuit from the fields so far */
+
+typedef struct {
+    const oracle_limits *limits;
+    bool has_header, behind_block;
+    unsigned n, blocks, rows;
+    uint32_t indexes; /* of the shift registers so far, a bit each */
+    bool used[5][MOST_OF_A_DESTINATION + 1];
+    uint8_t kinds[MOST_BLOCKS + 1];           /* of the blocks so far, by number */
+    const uint8_t *contents[MOST_BLOCKS + 1]; /* of the blocks so far, by number */
+    const uint8_t *first_row;                 /* its content; the rows stand behind one another */
+} known_circuit;
+
+enum { ROW_FIELD = 8 }; /* bytes */
+
+/* Judges a circuit and fills in what is known of it: all that there is, where it is accepted. */
+serifdove_answer oracle_judge(known_circuit *so_far, const oracle_limits *limits, const uint8_t *circuit, size_t length);
+
+/* ---- answers */
+
+static inline serifdove_answer refused(unsigned number, size_t place) {
+    return (serifdove_answer){.number = number, .place = place, .first = 0, .second = 0};
+}
+
+static inline serifdove_answer accepted(size_t first, size_t second) {
+    return (serifdove_answer){.number = 0, .place = 0, .first = first, .second = second};
+}
+
+#endif

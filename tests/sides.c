@@ -1,0 +1,13 @@
+#include "sides.h"
+
+#include "oracle.h"
+
+const side sides[SIDES] = {
+    [ARCHIVE] = {"archive", serifdove_check, serifdove_cold_start, serifdove_warm_start, serifdove_latch, serifdove_run,
+                 serifdove_publish},
+    [ORACLE] = {"oracle", oracle_check, oracle_cold_start, oracle_warm_start, oracle_latch, oracle_run, oracle_publish},
+};
+
+bool same_answer(serifdove_answer a, serifdove_answer b) {
+    return a.number == b.number && a.place == b.place && a.first == b.first && a.second == b.second;
+}

@@ -1,0 +1,239 @@
+#!/usr/bin/env python3
+"""The stored trace tests/data/cases.trace: document 01's cases as calls, with what each call must answer and leave, written by hand.
+stored_traces.py: prints it."""
+import sys
+
+sys.dont_write_bytecode = True
+from stored_circuits import ai1, block, document_01, end, header, i1, i2, none, on_delay, row, trigger
+
+PHASE, DONE, MARK, E = range(4)
+Q, M, AQ, AM = 1, 2, 3, 4  # destination classes
+block1 = (6, 1)
+
+
+def i_word(k):
+    return 3 + k
+
+
+def ai_word(k):
+    return 27 + k
+
+
+def m_word(k):
+    return 35 + k
+
+
+def am_word(k):
+    return 99 + k
+
+
+def own(k, output, remembered=0, number=0):
+    """The three words of block k."""
+    return {161 + 3 * k: output, 162 + 3 * k: remembered, 163 + 3 * k: number}
+
+
+def listed(words):
+    return " ".join(str(word) for word in [len(words)] + words)
+
+
+class Trace:
+    """Circuit, record and outputs as they stand; each method tells one call and its answer."""
+
+    def __init__(self, title, circuit, n):
+        print("#", title)
+        print("C", circuit.hex().upper() or "-")
+        self.n, self.record, self.outputs = n, [0] * (164 + 3 * n), [7] * 28
+        self.lend()
+
+    def lend(self):
+        print("R", listed(self.record))
+        print("O", listed(self.outputs))
+
+    def put(self, words):
+        """Replaces words of the record."""
+        for place, word in words.items():
+            self.record[place] = word
+        print("> rec", listed(self.record))
+
+    def said(self, call, number=0, first=0, second=0, place=0):
+        print(">", call)
+        print("<", number, place, first, second, listed(self.record), listed(self.outputs))
+
+    def cold(self):
+        self.record = [0] * len(self.record)
+        self.record[MARK] = self.record[m_word(8)] = 1
+        self.said("cold")
+
+    def warm(self, kept):
+        self.record = [0] * len(self.record)
+        self.record[MARK] = self.record[m_word(8)] = 1
+        self.record = [kept.get(place, word) for place, word in enumerate(self.record)]
+        self.said("warm")
+
+    def inputs(self, bits, analog):
+        return [bits.get(k, 0) for k in range(1, 25)] + [analog.get(k, 0) for k in range(1, 9)]
+
+    def latch(self, e=0, bits={}, analog={}):
+        inputs = self.inputs(bits, analog)
+        self.record[4:36] = inputs
+        self.record[PHASE], self.record[E] = 1, e
+        self.said(f"latch {e} {listed(inputs)}")
+
+    def latch_refused(self, number, e=0, bits={}, analog={}):
+        self.said(f"latch {e} {listed(self.inputs(bits, analog))}", number)
+
+    def run(self, c, done, words):
+        """Of c blocks so many are worked out: these words are what they become."""
+        for place, word in words.items():
+            self.record[place] = word
+        self.record[DONE] += done
+        self.said(f"run {c}", 0, done, self.n - self.record[DONE])
+
+    def publish(self, shown):
+        """These destinations become these values, all others 0."""
+        self.outputs = [shown.get((Q, k), 0) for k in range(1, 21)] + [shown.get((AQ, k), 0) for k in range(1, 9)]
+        self.record[36:100] = [shown.get((M, k), 0) for k in range(1, 65)]
+        self.record[100:164] = [shown.get((AM, k), 0) for k in range(1, 65)]
+        self.record[0:4] = [0, 0, 0, 0]
+        self.said("publish")
+
+    def scan(self, words, shown, **latch):
+        self.latch(**latch)
+        self.run(self.n, self.n, words)
+        self.publish(shown)
+
+    def end(self):
+        print(".")
+
+
+def checks():
+    trace = Trace("check: the empty circuit", b"", 0)
+    trace.said("check", 1)
+    trace.said("cold", 1)
+    trace.end()
+    for title, first, number in [("own", b"\x06\x00\x01", 7), ("a missing", b"\x06\x00\x02", 6)]:
+        trace = Trace(f"check: {title} block named", document_01[:11] + first + document_01[14:], 1)
+        trace.said("check", number, place=6)
+        trace.said("run 1", number, place=6)
+        trace.end()
+    trace = Trace("check: the circuit of 34 bytes", document_01, 1)
+    trace.said("check", 0, 1, 1)
+    trace.cold()
+    trace.scan(own(1, 1), {(Q, 1): 1}, bits={1: 1, 2: 1})
+    trace.scan(own(1, 0), {}, bits={1: 1})
+    trace.end()
+
+
+def delays():
+    trace = Trace("off-delay, T 3 ticks, Trg 1 then 0, 0, 0 with e 2: Q 1, 1, 1, 0", header(1) + block(10, [i1, none], [0, 3]) + row(Q, 1, block1) + end, 1)
+    trace.cold()
+    trace.scan(own(1, 1, 1, 0), {(Q, 1): 1}, e=2, bits={1: 1})
+    trace.scan(own(1, 1, 0, 0), {(Q, 1): 1}, e=2)
+    trace.scan(own(1, 1, 0, 2), {(Q, 1): 1}, e=2)
+    trace.scan(own(1, 0, 0, 0), {}, e=2)
+    trace.end()
+    trace = Trace("on-delay, T 0: Q follows Trg at once", header(1) + on_delay(0, 0) + row(Q, 20, block1) + end, 1)
+    trace.cold()
+    trace.scan(own(1, 1, 1, 0), {(Q, 20): 1}, e=9, bits={1: 1})
+    trace.scan(own(1, 0, 0, 0), {}, e=9)
+    trace.end()
+    trace = Trace("on-delay, T 3 ticks, retentive: e is not added in the scan where Trg rises", header(1) + block(9, [i1], [0, 3], 1) + row(M, 8, block1) + end, 1)
+    trace.cold()
+    trace.scan(own(1, 0, 1, 0), {}, e=5, bits={1: 1})
+    trace.scan(own(1, 0, 1, 2), {}, e=2, bits={1: 1})
+    trace.warm(own(1, 0, 1, 2))
+    trace.scan(own(1, 1, 1, 3), {}, e=1, bits={1: 1})  # M8 becomes 0, the mark was 1
+    trace.scan(own(1, 1, 1, 3), {(M, 8): 1}, e=0, bits={1: 1})
+    trace.end()
+    trace = Trace("hours 5999: Ta up to 35,994,000 ticks is sound", header(1) + on_delay(2, 5999) + end, 1)
+    trace.put(own(1, 0, 1, 35994000))
+    trace.scan(own(1, 1, 1, 35994000), {}, e=65535, bits={1: 1})
+    trace.put(own(1, 0, 1, 35994001))
+    trace.latch_refused(21)
+    trace.end()
+
+
+def bits():
+    trace = Trace("AND edge, four unused, after cold start: 1, then 0", header(1) + block(2, [none] * 4) + row(Q, 1, block1) + end, 1)
+    trace.cold()
+    trace.scan(own(1, 1, 1), {(Q, 1): 1})
+    trace.scan(own(1, 0, 1), {})
+    trace.scan(own(1, 0, 1), {})
+    trace.end()
+    trace = Trace("register 128, In 1: shift up 1, shift down 192", header(1) + block(12, [i1, i2, (1, 3)], [1, 8]) + row(Q, 1, block1) + end, 1)
+    trace.put(own(1, 0, 0, 128))
+    trace.scan(own(1, 0, 1, 1), {}, bits={1: 1, 2: 1})
+    trace.put(own(1, 0, 0, 128))
+    trace.scan(own(1, 1, 1, 192), {(Q, 1): 1}, bits={1: 1, 2: 1, 3: 1})
+    trace.put(own(1, 0, 0, 128))
+    trace.scan(own(1, 0, 1, 0), {}, bits={2: 1})
+    trace.end()
+
+
+def thresholds():
+    window = header(1) + trigger(ai1, (-33, 0, -3, -2)) + row(Q, 1, block1) + end
+    trace = Trace("gain -33, input 10, B 0: -3, seen through a window", window, 1)
+    trace.scan(own(1, 1), {(Q, 1): 1}, analog={1: 10})
+    trace.scan(own(1, 0), {}, analog={1: 13})
+    trace.scan(own(1, 0), {}, analog={1: 9})
+    trace.end()
+    trace = Trace("On = Off = 5: 5 gives 0, 6 gives 1", header(1) + trigger(ai1, (100, 0, 5, 5)) + row(Q, 1, block1) + end, 1)
+    trace.scan(own(1, 0), {}, analog={1: 5})
+    trace.scan(own(1, 1), {(Q, 1): 1}, analog={1: 6})
+    trace.scan(own(1, 0), {}, analog={1: 5})
+    trace.end()
+
+
+def rows():
+    exchange = header(0) + row(M, 1, (4, 2)) + row(M, 2, (4, 1)) + row(AM, 1, (8, 2)) + row(AM, 2, (8, 1)) + row(AQ, 8, ai1) + end
+    trace = Trace("M1 from M2 and M2 from M1: the two exchange, and so do AM1 and AM2", exchange, 0)
+    trace.put({m_word(1): 1, am_word(1): -32768, am_word(2): 32767})
+    trace.scan({}, {(M, 2): 1, (AM, 1): 32767, (AM, 2): -32768, (AQ, 8): 1000}, analog={1: 1000})
+    trace.scan({}, {(M, 1): 1, (AM, 1): -32768, (AM, 2): 32767})
+    trace.latch_refused(23, analog={1: 1001})
+    trace.end()
+    trace = Trace("M8 in the first scan: other rows still read 1", header(0) + row(Q, 1, (4, 8)) + row(M, 8, (3, 0)) + end, 0)
+    trace.cold()
+    trace.scan({}, {(Q, 1): 1})
+    trace.scan({}, {(M, 8): 1})
+    trace.scan({}, {(Q, 1): 1, (M, 8): 1})
+    trace.end()
+
+
+def turns():
+    two = header(2) + block(8, [none]) + block(8, [block1]) + row(Q, 1, (6, 2)) + row(Q, 2, (0x86, 2)) + end
+    trace = Trace("turns: a run of 0 blocks changes nothing; calls out of turn are refused", two, 2)
+    trace.cold()
+    trace.said("run 1", 22)
+    trace.said("publish", 22)
+    trace.latch(e=65535)
+    trace.run(0, 0, {})
+    trace.run(1, 1, own(1, 1))
+    trace.run(0, 0, {})
+    trace.said("publish", 22)
+    trace.said("warm", 22)
+    trace.latch_refused(22, e=70000)
+    trace.run(4294967295, 1, own(2, 0))
+    trace.run(1, 0, {})
+    trace.outputs = [7] * 27
+    print("> out", listed(trace.outputs))
+    trace.said("publish", 24)
+    trace.outputs = [7] * 28
+    print("> out", listed(trace.outputs))
+    trace.publish({(Q, 2): 1})
+    trace.latch_refused(23, e=-1)
+    trace.latch_refused(23, e=65536)
+    trace.latch_refused(23, bits={24: 2})
+    trace.record = trace.record[:-1]
+    print("> rec", listed(trace.record))
+    trace.said("cold", 20)
+    trace.said("warm", 20)
+    trace.end()
+
+
+checks()
+delays()
+bits()
+thresholds()
+rows()
+turns()
