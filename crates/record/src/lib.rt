@@ -281,16 +281,25 @@ pub fn clear_all(rec: &mut [i32])
 
 // ---- whether a record is sound
 
+// The word at an index that the record has.
+fn held_at(rec: &[i32], i: usize) -> i32
+    requires { ⌜ i < length (now rec) ⌝ }
+    ensures { λ r. ⌜ r ≡ at (now (rec .entry)) i ⌝ }
+{
+    rec[i]
+}
+
 // Whether the word at an index lies between two ends.
 fn word_fits(rec: &[i32], i: usize, least: i32, greatest: i32) -> bool
+    requires { ⌜ i < length (now rec) ⌝ }
     ensures { λ r. ⌜ r ≡ inRange (least to greatest) (at (now (rec .entry)) i) ⌝ }
 {
-    words::within(word_at(rec, i), least, greatest)
+    words::within(held_at(rec, i), least, greatest)
 }
 
 // Whether each of m words from an index on does.
 pub fn run_fits(rec: &[i32], a: usize, m: usize, least: i32, greatest: i32) -> bool
-    requires { ⌜ (a ≤ 2000) × (m ≤ 2000) ⌝ }
+    requires { ⌜ (a ≤ 2000) × (m ≤ 2000) × (a + m ≤ length (now rec)) ⌝ }
     ensures { λ r. ⌜ r ≡ runFits (least to greatest) (now (rec .entry)) a m ⌝ }
 {
     let mut ok = true;
@@ -304,7 +313,7 @@ pub fn run_fits(rec: &[i32], a: usize, m: usize, least: i32, greatest: i32) -> b
 
 // Whether phase, blocks done, mark and e are in their ranges, for n blocks.
 fn head_fits(rec: &[i32], n: usize) -> bool
-    requires { ⌜ n ≤ 400 ⌝ }
+    requires { ⌜ (n ≤ 400) × (sizeOf 0 ≤ length (now rec)) ⌝ }
     ensures { λ r. ⌜ r ≡ headFits n (now (rec .entry)) ⌝ }
 {
     let most = words::word_of_count(n as u32);
@@ -317,7 +326,7 @@ fn head_fits(rec: &[i32], n: usize) -> bool
 
 // Whether all words but those of blocks are in their ranges, for n blocks.
 fn fixed_fit(rec: &[i32], n: usize) -> bool
-    requires { ⌜ n ≤ 400 ⌝ }
+    requires { ⌜ (n ≤ 400) × (sizeOf 0 ≤ length (now rec)) ⌝ }
     ensures { λ r. ⌜ r ≡ fixedFit n (now (rec .entry)) ⌝ }
 {
     let head = head_fits(rec, n);
@@ -333,15 +342,15 @@ fn fixed_fit(rec: &[i32], n: usize) -> bool
 
 // Whether the three words of block k, which stands at a place of the bytes, are in their ranges.
 fn block_fits(kinds: &KindTable, bytes: &[u8], at: usize, rec: &[i32], k: usize) -> bool
-    requires { ⌜ (now kinds ≡ kindsTable) × Lies (now bytes) at × (k ≤ 400) ⌝ }
+    requires { ⌜ (now kinds ≡ kindsTable) × Lies (now bytes) at × (k ≤ 400) × (sizeOf k ≤ length (now rec)) ⌝ }
     ensures { λ r. ⌜ r ≡ blockFits (lineOf (blockAt (now (bytes .entry)) at)) (now (rec .entry)) k ⌝ }
 {
     let kind = lines::kind_at(bytes, at);
     let time = lines::time_at(kinds, bytes, at);
     let i = BLOCKS + 3 * k;
-    let output = kinds::output_fits(kinds, kind, word_at(rec, i));
-    let remembered = kinds::remembered_fits(kinds, kind, word_at(rec, i + 1));
-    let number = kinds::number_fits(kinds, kind, time, word_at(rec, i + 2));
+    let output = kinds::output_fits(kinds, kind, held_at(rec, i));
+    let remembered = kinds::remembered_fits(kinds, kind, held_at(rec, i + 1));
+    let number = kinds::number_fits(kinds, kind, time, held_at(rec, i + 2));
     words::both(output, words::both(remembered, number))
 }
 
@@ -353,7 +362,7 @@ fn blocks_fit(
     n: usize,
     rec: &[i32],
 ) -> bool
-    requires { ⌜ (now kinds ≡ kindsTable) × Stand (now bytes) n (now offsets) ⌝ }
+    requires { ⌜ (now kinds ≡ kindsTable) × Stand (now bytes) n (now offsets) × (length (now rec) ≡ sizeOf n) ⌝ }
     ensures { λ r. ⌜ r ≡ blocksFit (now (bytes .entry)) n (now (offsets .entry)) (now (rec .entry)) ⌝ }
 {
     let mut ok = true;
@@ -367,6 +376,7 @@ fn blocks_fit(
 
 // Whether blocks done and e are 0.
 fn at_rest(rec: &[i32]) -> bool
+    requires { ⌜ sizeOf 0 ≤ length (now rec) ⌝ }
     ensures { λ r. ⌜ r ≡ atRest (now (rec .entry)) ⌝ }
 {
     words::both(word_fits(rec, DONE, 0, 0), word_fits(rec, ELAPSED, 0, 0))
@@ -380,7 +390,7 @@ pub fn is_sound(
     n: usize,
     rec: &[i32],
 ) -> bool
-    requires { ⌜ (now kinds ≡ kindsTable) × Stand (now bytes) n (now offsets) ⌝ }
+    requires { ⌜ (now kinds ≡ kindsTable) × Stand (now bytes) n (now offsets) × (length (now rec) ≡ sizeOf n) ⌝ }
     ensures { λ r. ⌜ r ≡ sound (linesAt (now (bytes .entry)) n (now (offsets .entry))) (now (rec .entry)) ⌝ }
 {
     let fixed = fixed_fit(rec, n);

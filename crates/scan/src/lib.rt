@@ -123,13 +123,13 @@ fn opened(kinds: &KindTable, circuit: &[u8], rec: &[i32], offsets: &mut [usize; 
 fn is_reading(inputs: &[i32], e: i32) -> bool
     ensures { λ r. ⌜ r ≡ isReading (now (inputs .entry)) e ⌝ }
 {
+    if inputs.len() != 32 {
+        return false;
+    }
     let bits = record::run_fits(inputs, 0, 24, 0, 1);
     let values = record::run_fits(inputs, 24, 8, 0, 1000);
     let time = words::within(e, 0, 65535);
-    words::both(
-        inputs.len() == 32,
-        words::both(bits, words::both(values, time)),
-    )
+    words::both(bits, words::both(values, time))
 }
 
 // Whether a scan has no blocks to go.

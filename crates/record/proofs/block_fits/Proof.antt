@@ -21,26 +21,26 @@ mul-i c = search needs
 add-i : tie.Need-add-i
 add-i c = search needs
 
-word-at-requires : tie.Need-word-at-requires
-word-at-requires c κs = search needs
+held-at-requires : tie.Need-held-at-requires
+held-at-requires c κs = search needs
 
 output-fits-requires : tie.Need-output-fits-requires
 output-fits-requires c κs = search needs
 
-add-word-at : tie.Need-add-word-at
-add-word-at c = search needs
+add-held-at : tie.Need-add-held-at
+add-held-at c = search needs
 
-word-at-requires-2 : tie.Need-word-at-requires-2
-word-at-requires-2 c κs = search needs
+held-at-requires-2 : tie.Need-held-at-requires-2
+held-at-requires-2 c κs = search needs
 
 remembered-fits-requires : tie.Need-remembered-fits-requires
 remembered-fits-requires c κs = search needs
 
-add-word-at-2 : tie.Need-add-word-at-2
-add-word-at-2 c = search needs
+add-held-at-2 : tie.Need-add-held-at-2
+add-held-at-2 c = search needs
 
-word-at-requires-3 : tie.Need-word-at-requires-3
-word-at-requires-3 c κs = search needs
+held-at-requires-3 : tie.Need-held-at-requires-3
+held-at-requires-3 c κs = search needs
 
 number-fits-requires : tie.Need-number-fits-requires
 number-fits-requires c κs = search needs
@@ -54,9 +54,9 @@ both-requires-2 c κs = search needs
 returns : tie.Need-returns
 unfolding lineOf indexOf blockFits
 returns c =
-    let output = back-to _ (c .before .before .before .before .before .before .before .word-at .ok) (c .before .before .before .before .before .before .before .word-at .ensures) in
-    let remembered = back-to _ (c .before .before .before .before .before .word-at2 .ok) (c .before .before .before .before .before .word-at2 .ensures) in
-    let number = back-to _ (c .before .before .before .word-at3 .ok) (c .before .before .before .word-at3 .ensures) in
+    let output = back-to _ (c .before .before .before .before .before .before .before .held-at .ok) (c .before .before .before .before .before .before .before .held-at .ensures) in
+    let remembered = back-to _ (c .before .before .before .before .before .held-at2 .ok) (c .before .before .before .before .before .held-at2 .ensures) in
+    let number = back-to _ (c .before .before .before .held-at3 .ok) (c .before .before .before .held-at3 .ensures) in
     rw (add-zero (161 + 3 * c .before .before .before .before .before .before .before .before .before .before .before .args .k), ← c .before .before .before .before .before .before .before .before .time-at .ensures, ← c .before .before .before .before .before .before .before .before .before .kind-at .ensures .0, ← output, ← remembered, ← number, ← c .before .before .before .before .before .before .output-fits .ensures, ← c .before .before .before .before .remembered-fits .ensures, ← c .before .before .number-fits .ensures, ← c .before .both .ensures) (c .both2 .ensures)
 
 pub block-fits-spec : {M : Type 1} → statement M
@@ -67,13 +67,13 @@ block-fits-spec =
     time-at-requires
     mul-i
     add-i
-    word-at-requires
+    held-at-requires
     output-fits-requires
-    add-word-at
-    word-at-requires-2
+    add-held-at
+    held-at-requires-2
     remembered-fits-requires
-    add-word-at-2
-    word-at-requires-3
+    add-held-at-2
+    held-at-requires-3
     number-fits-requires
     both-requires
     both-requires-2

@@ -29,7 +29,7 @@ add-block-fits : tie.Need-add-block-fits Inv-loop μ-loop
 add-block-fits c = omega (arith, c .before .before .before .before .pre .1 .few)
 
 block-fits-requires : tie.Need-block-fits-requires Inv-loop μ-loop
-block-fits-requires c κs = (c .before .before .before .before .pre .0, c .before .before .before .before .pre .1 .lie _ (c .before .loop-test .taken), omega (arith, c .before .before .before .before .pre .1 .few))
+block-fits-requires c κs = (c .before .before .before .before .pre .0, c .before .before .before .before .pre .1 .lie _ (c .before .loop-test .taken), omega (arith, c .before .before .before .before .pre .1 .few), omega (arith, c .before .loop-test .taken, c .before .before .before .before .pre .2))
 
 both-requires : tie.Need-both-requires Inv-loop μ-loop
 both-requires c κs = search needs

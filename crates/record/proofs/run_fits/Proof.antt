@@ -27,7 +27,7 @@ add-word-fits : tie.Need-add-word-fits Inv-loop μ-loop
 add-word-fits c = omega arith
 
 word-fits-requires : tie.Need-word-fits-requires Inv-loop μ-loop
-word-fits-requires c κs = search needs
+word-fits-requires c κs = omega arith
 
 both-requires : tie.Need-both-requires Inv-loop μ-loop
 both-requires c κs = search needs
