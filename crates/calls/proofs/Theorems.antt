@@ -2,11 +2,13 @@
 --   stays-sound, cold-start-sound: whatever is called, a sound record stays sound; an accepted cold start makes any record sound.
 --   can-be-closed: a scan can always be ended, by a run of the blocks to go and a publish.
 --   sound-accepted: the same for the bytes of an accepted circuit.
+--   outputs-stay: no call but publish writes an output word.
 use Prim.Native.Nat.{ℕ, _<_}
 use native.Mathlib.Omega.{arith}
-use mathlib.Core.Path.{_≡_, _∙_}
-use mathlib.Core.Bool.{true}
+use mathlib.Core.Path.{_≡_, refl, _∙_}
+use mathlib.Core.Bool.{Bool, true, false, cond}
 use mathlib.Core.List.{List}
+use lib.Dec.{eqb}
 use lib.ListN.{length}
 use lib.IntN.{ℤ}
 use Rattle.decoding.specs.Decoded.{Circuit}
@@ -17,7 +19,7 @@ use Rattle.record.specs.Places.{sizeOf}
 use Rattle.record.specs.Sound.{linesOf, inScan, sound}
 use Rattle.record.proofs.Held.{Sound, told, tested}
 use Rattle.steps.specs.Steps.{toGo}
-use Rattle.calls.specs.Calls.{Call, coldStart, warmStart, latch, run, publish, Plan, planOf, refusal, leaves, answerOn, recordOn, answerAfter, recordAfter, outputsAfter, outputsOn}
+use Rattle.calls.specs.Calls.{Call, coldStart, warmStart, latch, run, publish, Plan, planOf, refusal, leaves, shows, answerOn, recordOn, answerAfter, recordAfter, outputsAfter, outputsOn}
 use Rattle.calls.specs.Fine.{FinePlan}
 use Rattle.calls.proofs.Accepts.{cold-told, latch-told, run-told, run-right, publish-right, record-accepted, record-refused, answer-number, either-way}
 use Rattle.calls.proofs.Fine.{accepted-fine}
@@ -110,3 +112,24 @@ sound-accepted s small c e =
           let q = can-be-closed p fine l (g .0) (g .1) scan in
           (rw (number-after s c e x l) (q .0), rw (record-after s c e x l, number-after s c e (publish 28) (recordOn p x l)) (q .1));
     }
+
+-- ---- outputs change when a scan is closed, and not before
+
+abbrev pub closes : Call → Bool
+closes coldStart = false
+closes warmStart = false
+closes (latch r e) = false
+closes (run c) = false
+closes (publish k) = true
+
+either-same : (t : Bool) (o : List ℤ) → cond t o o ≡ o
+either-same true o = refl
+either-same false o = refl
+
+pub outputs-stay : (p : Plan) (x : Call) (l o : List ℤ) → closes x ≡ false → outputsOn p x l o ≡ o
+unfolding outputsOn shows
+outputs-stay p coldStart l o e = either-same (eqb (refusal p coldStart l) 0) o
+outputs-stay p warmStart l o e = either-same (eqb (refusal p warmStart l) 0) o
+outputs-stay p (latch r t) l o e = either-same (eqb (refusal p (latch r t) l) 0) o
+outputs-stay p (run c) l o e = either-same (eqb (refusal p (run c) l) 0) o
+outputs-stay p (publish k) l o e = cc

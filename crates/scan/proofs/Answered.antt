@@ -20,7 +20,7 @@ use Rattle.record.specs.Places.{sizeOf, change}
 use Rattle.record.specs.Sound.{linesOf, inScan, sound}
 use Rattle.record.specs.Written.{linesAt}
 use Rattle.steps.specs.Steps.{doneOf, toGo, turnOf, turned}
-use Rattle.steps.proofs.Running.{lines-length}
+use Rattle.record.proofs.Split.{lines-length}
 use Rattle.destinations.specs.Destinations.{outputsOf, publishWord}
 use Rattle.calls.specs.Calls.{coldStart, warmStart, latch, run, publish, Plan, planOf, coldWord, warmWord, latchWord, isReading, gives, leaves, shows, answerAfter, recordAfter, outputsAfter}
 use Rattle.scan.specs.Opened.{Refuses, Opened}

@@ -22,7 +22,7 @@ use Rattle.record.specs.Sound.{lineAt}
 use Rattle.record.specs.Written.{putAll, nothing, linesAt, Stand}
 use Rattle.record.proofs.Located.{Spot, is-phase, is-done, is-mark, is-elapsed, is-input, is-analog, is-flag, is-analogFlag, is-block, spot, is-change, put-words-length, put-words-away, put-words-output, put-words-remembered, put-words-number}
 use Rattle.record.proofs.Runs.{put-all-length, put-all-away, put-all-in}
-use Rattle.steps.proofs.Running.{line-there}
+use Rattle.record.proofs.Split.{line-there}
 use Rattle.calls.specs.Calls.{fresh, coldWord, warmWord, latchWord}
 use Rattle.scan.specs.Opened.{clearedUpTo}
 
@@ -193,14 +193,12 @@ module _ (s : List ℕ) (n : ℕ) (offsets : List ℕ) (stand : Stand s n offset
   block-word : (i : ℕ) → 164 ≤ i → i < length l → placeOf i ≡ block ((i - 164) / 3 + 1) ((i - 164) % 3) → at emptied i ≡ warmWord (linesAt s n offsets) (placeOf i) (at l i)
   unfolding indexOf
   block-word i a h e =
-      let d = (i - 164) / 3 in
       let q : 164 + 3 * ((i - 164) / 3) + (i - 164) % 3 ≡ i = omega arith in
       let low : (i - 164) / 3 < n = omega (arith, long) in
-      let k : (i - 164) / 3 + 1 ≡ suc ((i - 164) / 3) = omega arith in
       let went : at cleared i ≡ cond (lineOf (blockAt s (getD offsets ((i - 164) / 3) 0)) .retentive) (at l i) (pos 0) =
       rw q at (gone s offsets l n ((i - 164) / 3) ((i - 164) % 3) low (omega arith) (omega (arith, long))) in
       let told : lineAt (linesAt s n offsets) ((i - 164) / 3 + 1) .retentive ≡ lineOf (blockAt s (getD offsets ((i - 164) / 3) 0)) .retentive =
-      ap (λ (x : ℕ). lineAt (linesAt s n offsets) x .retentive) k ∙ ap (λ (x : Line). x .retentive) (line-there s n offsets stand ((i - 164) / 3) low) in
+      ap (λ (x : Line). x .retentive) (line-there s n offsets stand ((i - 164) / 3) low) in
       put-all-away cleared 0 164 nothing i (λ j b f. omega arith)
       ∙ rw e (went ∙ ap (λ (t : Bool). cond t (at l i) (pos 0)) (sym told))
 

@@ -26,7 +26,7 @@ use Rattle.record.specs.Sound.{linesOf, inScan, sound}
 use Rattle.record.specs.Written.{linesAt, Stand}
 use Rattle.steps.specs.Steps.{toGo}
 use Rattle.steps.specs.Wired.{AllFine, Runs}
-use Rattle.steps.proofs.Running.{lines-length}
+use Rattle.record.proofs.Split.{lines-length}
 use Rattle.destinations.proofs.Decided.{accepted-rows}
 use Rattle.calls.specs.Calls.{Call, coldStart, warmStart, latch, run, publish, Plan, planOf, isReading, faults, refusal, gives, leaves, shows, answerAfter, recordAfter, outputsAfter}
 use Rattle.calls.specs.Fine.{FinePlan}

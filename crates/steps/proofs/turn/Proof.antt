@@ -3,7 +3,8 @@ use Prim.Native.Nat.{_-_, _≤_}
 use native.Mathlib.Omega.{arith}
 use mathlib.Core.Path.{_≡_, refl}
 use Rattle.steps.specs.Steps.{doneOf, turned}
-use Rattle.steps.proofs.Running.{lines-length, done-within}
+use Rattle.record.proofs.Split.{lines-length}
+use Rattle.steps.proofs.Running.{done-within}
 use borrow.Author.Needs.{needs}
 use Rattle.steps.proofs.turn.Statement.{statement}
 use Rattle.steps.proofs.turn.Tie as tie
