@@ -10,6 +10,7 @@ use lib.ListN.{length, set, length-set}
 use lib.Seq.{getD-set-same, getD-set-other}
 use lib.IntN.{ℤ, pos}
 use Rattle.words.proofs.Bounds.{and-true}
+use Rattle.refusals.proofs.Tests.{and-false}
 use Rattle.record.specs.Places.{at}
 use Rattle.record.specs.Sound.{every}
 use Rattle.record.specs.Written.{putAll}
@@ -62,11 +63,9 @@ pub one-fails : (n : ℕ) (f : ℕ → Bool) (i : ℕ) → i < n → f i ≡ fal
 unfolding every
 one-fails zero f i h e = let z : ⊥ = omega arith in absurd z
 one-fails (suc n) f i h e =
-    ⊎-elim (λ (g : i ≡ n). and-right (every n f) (f n) (ap f (sym g) ∙ e)) (λ (g : i < n). rw (one-fails n f i g e)) (eq-or-lt-of-le {n = i} {m = n} (omega arith))
-  where
-    and-right : (a b : Bool) → b ≡ false → a && b ≡ false
-    and-right true b e = e
-    and-right false b e = refl
+    ⊎-elim (λ (g : i ≡ n). and-false (every n f) (f n) .1 (λ t. ap f (sym g) ∙ e))
+    (λ (g : i < n). rw (one-fails n f i g e))
+    (eq-or-lt-of-le {n = i} {m = n} (omega arith))
 
 and-assoc : (a b c : Bool) → (a && b) && c ≡ a && (b && c)
 and-assoc true b c = refl
