@@ -1,5 +1,6 @@
 #include "circuits.h"
 
+#include <stdlib.h>
 #include <string.h>
 
 /* ---- chance */
@@ -11,6 +12,13 @@ static uint64_t mixed(uint64_t z) {
 
 /* Mixed, so that no seed's numbers are another's from a later place on. */
 chance chance_of(uint64_t seed) { return (chance){mixed(seed + 0x2545F4914F6CDD1Du)}; }
+
+void seed_and_count(int words, char **word, uint64_t *seed, uint64_t *count) {
+    if (words > 1)
+        *seed = strtoull(word[1], NULL, 0);
+    if (words > 2)
+        *count = strtoull(word[2], NULL, 0);
+}
 
 uint32_t below(chance *with, uint32_t bound) {
     with->state += 0x9E3779B97F4A7C15u;

@@ -24,6 +24,9 @@ typedef struct {
 } chance;
 
 chance chance_of(uint64_t seed);
+
+/* What a comparison is told: the seed, then how much to compare. Words that are not there leave what is. */
+void seed_and_count(int words, char **word, uint64_t *seed, uint64_t *count);
 uint32_t below(chance *with, uint32_t bound);                   /* 0 to bound - 1 */
 bool once_in(chance *with, uint32_t times);                     /* true once in so many times */
 int32_t between(chance *with, int32_t least, int32_t greatest); /* both ends are often met */

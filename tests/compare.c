@@ -498,8 +498,7 @@ int main(int words, char **word) {
         }
         count = 1;
     } else {
-        seed = words > 1 ? strtoull(word[1], NULL, 0) : seed;
-        count = words > 2 ? strtoull(word[2], NULL, 0) : count;
+        seed_and_count(words, word, &seed, &count);
     }
     chance with = chance_of(seed);
     slice = guarded_memory(ROOM, true);

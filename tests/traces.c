@@ -245,8 +245,7 @@ int main(int argc, char **argv) {
         }
         count = 1;
     } else {
-        seed = argc > 1 ? strtoull(argv[1], NULL, 0) : seed;
-        count = argc > 2 ? strtoull(argv[2], NULL, 0) : count;
+        seed_and_count(argc, argv, &seed, &count);
     }
     chance with = chance_of(seed);
     begin_comparing(&archive);

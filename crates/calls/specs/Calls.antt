@@ -1,6 +1,6 @@
 -- The calls on a record: refusals in their order, the answer, and every lent word afterwards. Document 01, "Run record and outputs" and
 -- "Refusal numbers and their order".
-use Prim.Native.Nat.{ℕ, _+_, _-_, min}
+use Prim.Native.Nat.{ℕ, _+_, _-_}
 use mathlib.Core.Bool.{Bool, false, cond, not, _&&_, _||_}
 use mathlib.Core.List.{List, [], _∷_}
 use lib.Dec.{eqb}

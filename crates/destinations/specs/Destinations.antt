@@ -1,7 +1,7 @@
 -- What each output and each flag gets from the rows. Document 01, "Run record and outputs": "Publish writes 28 output words .. and all
 -- flags at once from the rows; without a row, 0."
 use Prim.Native.Nat.{ℕ, zero, suc, _+_}
-use mathlib.Core.Bool.{Bool, false, cond, _&&_}
+use mathlib.Core.Bool.{false, cond, _&&_}
 use mathlib.Core.List.{List, [], _∷_, _++_}
 use lib.Dec.{leb, eqb}
 use lib.IntN.{ℤ, pos}

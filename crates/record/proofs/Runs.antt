@@ -2,7 +2,7 @@
 use Prim.Native.Nat.{ℕ, zero, suc, _+_, _-_, _*_, _≤_, _<_}
 use native.Mathlib.Omega.{arith}
 use native.Mathlib.Nat.{eq-or-lt-of-le, add-zero, add-suc}
-use mathlib.Core.Path.{_≡_, refl, _∙_}
+use mathlib.Core.Path.{_≡_, refl, sym, ap, _∙_}
 use mathlib.Core.Logic.{⊎-elim}
 use mathlib.Core.Bool.{Bool, true, false, _&&_}
 use mathlib.Core.List.{List}
@@ -10,6 +10,7 @@ use lib.ListN.{length, set, length-set}
 use lib.Seq.{getD-set-same, getD-set-other}
 use lib.IntN.{ℤ, pos}
 use Rattle.words.proofs.Bounds.{and-true}
+use Rattle.refusals.proofs.Tests.{and-false}
 use Rattle.record.specs.Places.{at}
 use Rattle.record.specs.Sound.{every}
 use Rattle.record.specs.Written.{putAll}
@@ -56,6 +57,15 @@ pub each-every : (n : ℕ) (f : ℕ → Bool) → ((i : ℕ) → i < n → f i �
 unfolding every
 each-every zero f h = refl
 each-every (suc n) f h = rw (each-every n f (λ i g. h i (omega arith)), h n (omega arith))
+
+-- one that fails
+pub one-fails : (n : ℕ) (f : ℕ → Bool) (i : ℕ) → i < n → f i ≡ false → every n f ≡ false
+unfolding every
+one-fails zero f i h e = let z : ⊥ = omega arith in absurd z
+one-fails (suc n) f i h e =
+    ⊎-elim (λ (g : i ≡ n). and-false (every n f) (f n) .1 (λ t. ap f (sym g) ∙ e))
+    (λ (g : i < n). rw (one-fails n f i g e))
+    (eq-or-lt-of-le {n = i} {m = n} (omega arith))
 
 and-assoc : (a b c : Bool) → (a && b) && c ≡ a && (b && c)
 and-assoc true b c = refl

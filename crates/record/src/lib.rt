@@ -302,13 +302,14 @@ pub fn run_fits(rec: &[i32], a: usize, m: usize, least: i32, greatest: i32) -> b
     requires { ⌜ (a ≤ 2000) × (m ≤ 2000) × (a + m ≤ length (now rec)) ⌝ }
     ensures { λ r. ⌜ r ≡ runFits (least to greatest) (now (rec .entry)) a m ⌝ }
 {
-    let mut ok = true;
     let mut i = 0;
     while i < m {
-        ok = words::both(ok, word_fits(rec, a + i, least, greatest));
+        if !word_fits(rec, a + i, least, greatest) {
+            return false;
+        }
         i += 1;
     }
-    ok
+    true
 }
 
 // Whether phase, blocks done, mark and e are in their ranges, for n blocks.

@@ -1,7 +1,7 @@
 -- Each call, where it is refused and where it is accepted: its answer and every lent word. Assumes nothing.
-use Prim.Native.Nat.{ℕ, _-_, _*_, _+_, _≤_}
+use Prim.Native.Nat.{ℕ, _-_}
 use native.Mathlib.Omega.{arith}
-use mathlib.Core.Path.{_≡_, refl, sym, ap, _∙_, subst}
+use mathlib.Core.Path.{_≡_, refl, sym, ap, _∙_}
 use mathlib.Core.Bool.{Bool, true, false, cond, not, _&&_, _||_}
 use mathlib.Core.List.{List}
 use lib.Dec.{eqb}

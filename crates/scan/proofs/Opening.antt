@@ -1,8 +1,8 @@
 -- From what the code finds to what the calls answer and leave. Assumes nothing.
-use Prim.Native.Nat.{ℕ, zero, suc, _+_, _-_, _*_, _≤_, _<_}
+use Prim.Native.Nat.{ℕ, _-_}
 use native.Mathlib.Omega.{arith}
 use mathlib.Core.Path.{_≡_, refl, sym, ap, _∙_, subst}
-use mathlib.Core.Bool.{Bool, true, false, cond, not, _&&_, _||_}
+use mathlib.Core.Bool.{Bool, true, false, cond, not, _||_}
 use mathlib.Core.List.{List, [], _∷_, map}
 use lib.Dec.{eqb}
 use lib.ListN.{length, take}
@@ -25,11 +25,10 @@ use Rattle.record.specs.Places.{sizeOf}
 use Rattle.record.specs.Sound.{linesOf, inScan, sound}
 use Rattle.record.specs.Written.{linesAt, Stand}
 use Rattle.steps.specs.Steps.{toGo}
-use Rattle.steps.specs.Wired.{AllFine, Runs}
+use Rattle.steps.specs.Wired.{AllFine}
 use Rattle.record.proofs.Split.{lines-length}
 use Rattle.destinations.proofs.Decided.{accepted-rows}
 use Rattle.calls.specs.Calls.{Call, coldStart, warmStart, latch, run, publish, Plan, planOf, isReading, faults, refusal, gives, leaves, shows, answerAfter, recordAfter, outputsAfter}
-use Rattle.calls.specs.Fine.{FinePlan}
 use Rattle.calls.proofs.Accepts.{answer-accepted, record-accepted, outputs-accepted, answer-refused, record-refused, outputs-refused}
 use Rattle.calls.proofs.Fine.{accepted-fine}
 use Rattle.calls.proofs.Theorems.{answer-after, record-after, outputs-after}

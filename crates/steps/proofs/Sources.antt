@@ -2,10 +2,10 @@
 use Prim.Native.Nat.{ℕ, zero, suc}
 use mathlib.Core.Path.{_≡_, refl}
 use mathlib.Core.List.{List, [], _∷_}
-use mathlib.Core.Option.{Option, none, some}
+use mathlib.Core.Option.{none, some}
 use lib.ListN.{getD}
 use Rattle.connectors.specs.Connectors.{Connector, classOf}
-use Rattle.record.specs.Places.{Place, input, analog, flag, analogFlag, output}
+use Rattle.record.specs.Places.{input, analog, flag, analogFlag, output}
 use Rattle.steps.specs.Steps.{sourceOf}
 
 -- none of a list, as the last arm of a match knows it

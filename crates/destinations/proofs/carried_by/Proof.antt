@@ -9,47 +9,31 @@ use Rattle.destinations.specs.Destinations.{carried}
 use borrow.Author.Needs.{needs}
 use Rattle.destinations.proofs.carried_by.Statement.{statement}
 use Rattle.destinations.proofs.carried_by.Tie as tie
-use Rattle.destinations.proofs.carried_by.Reads as reads
-use Rattle.destinations.proofs.carried_by.Lts as lts
-use Rattle.steps.proofs.bit_from.Reads as bit-from-reads
-use Rattle.steps.proofs.value_from.Reads as value-from-reads
-use Rattle.words.proofs.byte_at.Reads as byte-at-reads
-use Rattle.words.proofs.two_at.Reads as two-at-reads
-use Rattle.words.proofs.word_of.Reads as word-of-reads
 
--- src/lib.rt:38:38
 add-byte-at : tie.Need-add-byte-at
 add-byte-at c = search needs
 
--- src/lib.rt:38:9
 byte-at-requires : tie.Need-byte-at-requires
 byte-at-requires c κs = search needs
 
--- src/lib.rt:39:39
 add-two-at : tie.Need-add-two-at
 add-two-at c = search needs
 
--- src/lib.rt:39:9
 two-at-requires : tie.Need-two-at-requires
 two-at-requires c κs = search needs
 
--- src/lib.rt:40:30
 add-byte-at-2 : tie.Need-add-byte-at-2
 add-byte-at-2 c = search needs
 
--- src/lib.rt:40:8
 byte-at-requires-2 : tie.Need-byte-at-requires-2
 byte-at-requires-2 c κs = search needs
 
--- src/lib.rt:41:31
 bit-from-requires : tie.Need-bit-from-requires
 bit-from-requires c κs = search needs
 
--- src/lib.rt:41:9
 word-of-requires : tie.Need-word-of-requires
 word-of-requires c κs = search needs
 
--- src/lib.rt:41:9
 returns : tie.Need-returns
 unfolding carried
 returns c =
@@ -61,11 +45,9 @@ returns c =
     rw (e, ← class .ensures .0, ← number .ensures .0, ← from .ensures .0, le-leb (class .result) 2 (c .before .before .if1 .taken), ← c .before .bit-from .ensures)
     (back-to (c .word-of .result) (c .word-of .ok) (c .word-of .ensures))
 
--- src/lib.rt:43:5
 value-from-requires : tie.Need-value-from-requires
 value-from-requires c κs = search needs
 
--- src/lib.rt:34:1
 returns-2 : tie.Need-returns-2
 unfolding carried
 returns-2 c =

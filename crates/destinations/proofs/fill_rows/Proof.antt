@@ -7,9 +7,6 @@ use mathlib.Core.Path.{_≡_, sym, ap, _∙_}
 use Rattle.destinations.proofs.Filled.{filledFrom, filled-length, filled-none, filled-more, filled-all, row-fine}
 use Rattle.destinations.proofs.fill_rows.Statement.{statement}
 use Rattle.destinations.proofs.fill_rows.Tie as tie
-use Rattle.destinations.proofs.fill_rows.Reads as reads
-use Rattle.destinations.proofs.fill_rows.Lts as lts
-use Rattle.destinations.proofs.fill_row.Reads as fill-row-reads
 
 abbrev Inv-loop : tie.InvT-loop
 Inv-loop bytes start count rec slots₀ left₀ slots left = (left ≤ count) × (slots ≡ filledFrom bytes start count rec left)
@@ -17,25 +14,20 @@ Inv-loop bytes start count rec slots₀ left₀ slots left = (left ≤ count) ×
 abbrev μ-loop : tie.MeasureT-loop
 μ-loop bytes start count rec slots₀ left₀ slots left = left
 
--- src/lib.rt:64:5
 loop-holds : tie.Need-loop-holds Inv-loop μ-loop
 loop-holds c =
     let a = c .before .args in
     (omega arith, c .before .pre .1 ∙ sym (filled-none (a .bytes .now) (a .start) (a .count) (a .rec .now)))
 
--- src/lib.rt:65:9
 sub-left : tie.Need-sub-left Inv-loop μ-loop
 sub-left c = omega arith
 
--- src/lib.rt:66:33
 mul-fill-row : tie.Need-mul-fill-row Inv-loop μ-loop
 mul-fill-row c = omega arith
 
--- src/lib.rt:66:25
 add-fill-row : tie.Need-add-fill-row Inv-loop μ-loop
 add-fill-row c = omega arith
 
--- src/lib.rt:66:9
 fill-row-requires : tie.Need-fill-row-requires Inv-loop μ-loop
 fill-row-requires c κs =
     let a = c .before .before .before .before .args in
@@ -47,11 +39,9 @@ fill-row-requires c κs =
       ap length (here .inv .1) ∙ filled-length _ (a .rec .now),
     )
 
--- src/lib.rt:64:5
 loop-less : tie.Need-loop-less Inv-loop μ-loop
 loop-less c = omega arith
 
--- src/lib.rt:64:5
 loop-again : tie.Need-loop-again Inv-loop μ-loop
 loop-again c =
     let a = c .before .before .before .before .before .before .args in
@@ -60,13 +50,11 @@ loop-again c =
       rw (filled-more (a .bytes .now) (a .start) (a .count) (a .rec .now) (here .left) (omega arith) (here .inv .0), ← here .inv .1) (c .before .fill-row .ensures),
     )
 
--- src/lib.rt:59:1
 same-length : tie.Need-same-length Inv-loop μ-loop
 same-length c =
     let start = c .before .before .before in
     ap length (c .before .loop .inv .1) ∙ filled-length _ (start .args .rec .now) ∙ sym (ap length (start .pre .1) ∙ length-replicate 156 (pos 0))
 
--- src/lib.rt:59:1
 returns : tie.Need-returns Inv-loop μ-loop
 returns c =
     let a = c .before .before .before .args in

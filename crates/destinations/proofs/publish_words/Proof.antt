@@ -9,76 +9,52 @@ use Rattle.destinations.proofs.Published.{headless, published}
 use borrow.Author.Needs.{needs}
 use Rattle.destinations.proofs.publish_words.Statement.{statement}
 use Rattle.destinations.proofs.publish_words.Tie as tie
-use Rattle.destinations.proofs.publish_words.Reads as reads
-use Rattle.destinations.proofs.publish_words.Lts as lts
-use Rattle.destinations.proofs.clear_eighth.Reads as clear-eighth-reads
-use Rattle.destinations.proofs.fill_rows.Reads as fill-rows-reads
-use Rattle.record.proofs.clear_head.Reads as clear-head-reads
-use Rattle.record.proofs.is_marked.Reads as is-marked-reads
-use Rattle.record.proofs.put_flags.Reads as put-flags-reads
-use Rattle.record.proofs.put_outputs.Reads as put-outputs-reads
 
--- src/lib.rt:86:9
 is-marked-requires : tie.Need-is-marked-requires
 is-marked-requires c κs = search needs
 
--- src/lib.rt:88:46
 slice-aggregate-fill-rows : tie.Need-slice-aggregate-fill-rows
 slice-aggregate-fill-rows c = search needs
 
--- src/lib.rt:88:5
 fill-rows-requires : tie.Need-fill-rows-requires
 fill-rows-requires c κs = search needs
 
--- src/lib.rt:89:31
 sub-put-outputs : tie.Need-sub-put-outputs
 sub-put-outputs c = search needs
 
--- src/lib.rt:89:31
 part-put-outputs-start : tie.Need-part-put-outputs-start
 part-put-outputs-start c = search needs
 
--- src/lib.rt:89:31
 part-put-outputs-end : tie.Need-part-put-outputs-end
 part-put-outputs-end c = search needs
 
--- src/lib.rt:89:5
 put-outputs-requires : tie.Need-put-outputs-requires
 put-outputs-requires c κs = search needs
 
--- src/lib.rt:90:28
 sub-put-flags : tie.Need-sub-put-flags
 sub-put-flags c = search needs
 
--- src/lib.rt:90:28
 part-put-flags-start : tie.Need-part-put-flags-start
 part-put-flags-start c = search needs
 
--- src/lib.rt:90:28
 part-put-flags-end : tie.Need-part-put-flags-end
 part-put-flags-end c = search needs
 
--- src/lib.rt:90:5
 put-flags-requires : tie.Need-put-flags-requires
 put-flags-requires c κs = search needs
 
--- src/lib.rt:91:5
 clear-eighth-requires : tie.Need-clear-eighth-requires
 clear-eighth-requires c κs = search needs
 
--- src/lib.rt:92:5
 clear-head-requires : tie.Need-clear-head-requires
 clear-head-requires c κs = search needs
 
--- src/lib.rt:81:1
 same-length : tie.Need-same-length
 same-length c = search needs
 
--- src/lib.rt:81:1
 same-length-2 : tie.Need-same-length-2
 same-length-2 c = search needs
 
--- src/lib.rt:81:1
 returns : tie.Need-returns
 returns c =
     let start = c .before .before .before .before .before .before .before .before .before .before .before .before .before .before .before .before .before .before .before .before .before .before .before in

@@ -6,28 +6,21 @@ use native.Mathlib.Omega.{arith}
 use Rattle.destinations.proofs.Filled.{class-below, number-from, slot-below, base-bits}
 use Rattle.destinations.proofs.slot_of.Statement.{statement}
 use Rattle.destinations.proofs.slot_of.Tie as tie
-use Rattle.destinations.proofs.slot_of.Reads as reads
-use Rattle.destinations.proofs.slot_of.Lts as lts
 
--- src/lib.rt:30:16
 mul-result : tie.Need-mul-result
 mul-result c = let a = c .args in omega (arith, class-below (a .class) (a .number) (c .pre))
 
--- src/lib.rt:30:6
 shr-result : tie.Need-shr-result
 shr-result c = let a = c .args in omega (arith, class-below (a .class) (a .number) (c .pre))
 
--- src/lib.rt:30:37
 sub-result : tie.Need-sub-result
 sub-result c = let a = c .args in omega (arith, number-from (a .class) (a .number) (c .pre))
 
--- src/lib.rt:30:5
 add-result : tie.Need-add-result
 add-result c =
     let a = c .args in
     omega (arith, slot-below (a .class) (a .number) (c .pre), base-bits (a .class) (class-below (a .class) (a .number) (c .pre)))
 
--- src/lib.rt:26:1
 returns : tie.Need-returns
 returns c =
     let a = c .args in

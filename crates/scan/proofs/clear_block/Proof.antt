@@ -5,37 +5,25 @@ use Rattle.record.specs.Places.{putWords}
 use borrow.Author.Needs.{needs}
 use Rattle.scan.proofs.clear_block.Statement.{statement}
 use Rattle.scan.proofs.clear_block.Tie as tie
-use Rattle.scan.proofs.clear_block.Reads as reads
-use Rattle.scan.proofs.clear_block.Lts as lts
-use Rattle.lines.proofs.line_at.Reads as line-at-reads
-use Rattle.record.proofs.put_words.Reads as put-words-reads
-use Rattle.rules.proofs.three_of.Reads as three-of-reads
 
--- src/lib.rt:45:9
 line-at-requires : tie.Need-line-at-requires
 line-at-requires c κs = search needs
 
--- src/lib.rt:47:9
 returns : tie.Need-returns
 returns c = rw (← c .before .line-at .ensures, c .if1 .taken)
 
--- src/lib.rt:49:28
 add-put-words : tie.Need-add-put-words
 add-put-words c = search needs
 
--- src/lib.rt:49:35
 three-of-requires : tie.Need-three-of-requires
 three-of-requires c κs = search needs
 
--- src/lib.rt:49:5
 put-words-requires : tie.Need-put-words-requires
 put-words-requires c κs = search needs
 
--- src/lib.rt:41:1
 same-length : tie.Need-same-length
 same-length c = search needs
 
--- src/lib.rt:41:1
 returns-2 : tie.Need-returns-2
 returns-2 c = rw (← c .before .before .before .before .before .line-at .ensures, c .before .before .before .before .if1 .left) (c .before .put-words .ensures ∙ ap (putWords (c .before .before .before .before .before .before .before .args .rec .now) (c .before .before .before .before .before .before .before .args .d + 1)) (c .before .before .three-of .ensures))
 

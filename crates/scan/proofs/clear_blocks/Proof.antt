@@ -7,9 +7,6 @@ use lib.ListN.{length}
 use Rattle.scan.specs.Opened.{clearedUpTo}
 use Rattle.scan.proofs.clear_blocks.Statement.{statement}
 use Rattle.scan.proofs.clear_blocks.Tie as tie
-use Rattle.scan.proofs.clear_blocks.Reads as reads
-use Rattle.scan.proofs.clear_blocks.Lts as lts
-use Rattle.scan.proofs.clear_block.Reads as clear-block-reads
 
 abbrev Inv-loop : tie.InvT-loop
 Inv-loop kinds bytes offsets rec₀ n d₀ rec d = (d ≤ n) × (length rec ≡ length rec₀) × (rec ≡ clearedUpTo bytes offsets d rec₀)
@@ -17,41 +14,32 @@ Inv-loop kinds bytes offsets rec₀ n d₀ rec d = (d ≤ n) × (length rec ≡ 
 abbrev μ-loop : tie.MeasureT-loop
 μ-loop kinds bytes offsets rec₀ n d₀ rec d = n - d
 
--- src/lib.rt:58:5
 loop-holds : tie.Need-loop-holds Inv-loop μ-loop
 unfolding clearedUpTo
 loop-holds c = (omega arith, refl, refl)
 
--- src/lib.rt:59:35
 mul-clear-block : tie.Need-mul-clear-block Inv-loop μ-loop
 mul-clear-block c = omega (arith, c .before .before .before .pre .1 .few)
 
--- src/lib.rt:59:35
 element-copy-out-clear-block : tie.Need-element-copy-out-clear-block Inv-loop μ-loop
 element-copy-out-clear-block c = omega (arith, c .before .before .before .pre .1 .few, c .before .before .before .pre .1 .long)
 
--- src/lib.rt:59:9
 clear-block-requires : tie.Need-clear-block-requires Inv-loop μ-loop
 clear-block-requires c κs = (c .before .before .before .before .before .pre .0, c .before .before .before .before .before .pre .1 .lie (c .before .before .before .loop .d) (omega arith), omega (arith, c .before .before .before .before .before .pre .1 .few))
 
--- src/lib.rt:60:9
 add-d : tie.Need-add-d Inv-loop μ-loop
 add-d c = omega (arith, c .before .before .before .before .before .before .before .pre .1 .few)
 
--- src/lib.rt:58:5
 loop-less : tie.Need-loop-less Inv-loop μ-loop
 loop-less c = omega arith
 
--- src/lib.rt:58:5
 loop-again : tie.Need-loop-again Inv-loop μ-loop
 unfolding clearedUpTo
 loop-again c = (omega arith, c .before .clear-block .kept .1 .1 .1 .0 ∙ c .before .before .before .before .before .loop .inv .1, rw (add-one, ← c .before .before .before .before .before .loop .inv .2) (c .before .clear-block .ensures))
 
--- src/lib.rt:53:1
 same-length : tie.Need-same-length Inv-loop μ-loop
 same-length c = c .before .loop .inv .1
 
--- src/lib.rt:53:1
 returns : tie.Need-returns Inv-loop μ-loop
 returns c =
     let e : c .before .loop .d ≡ c .before .before .before .args .n = omega arith in

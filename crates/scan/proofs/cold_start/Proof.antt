@@ -11,61 +11,42 @@ use Rattle.scan.proofs.Answered.{cold-20, cold-done}
 use borrow.Author.Needs.{needs}
 use Rattle.scan.proofs.cold_start.Statement.{statement}
 use Rattle.scan.proofs.cold_start.Tie as tie
-use Rattle.scan.proofs.cold_start.Reads as reads
-use Rattle.scan.proofs.cold_start.Lts as lts
-use Rattle.circuit.proofs.judge.Reads as judge-reads
-use Rattle.kinds.proofs.table.Reads as table-reads
-use Rattle.record.proofs.size_of.Reads as size-of-reads
-use Rattle.refusals.proofs.accepted_with.Reads as accepted-with-reads
-use Rattle.refusals.proofs.ours.Reads as ours-reads
-use Rattle.refusals.proofs.refused_at.Reads as refused-at-reads
-use Rattle.scan.proofs.cold_words.Reads as cold-words-reads
 
--- src/lib.rt:149:17
 table-requires : tie.Need-table-requires
 table-requires c κs = search needs
 
--- src/lib.rt:151:33
 ours-requires : tie.Need-ours-requires
 ours-requires c κs = search needs
 
--- src/lib.rt:151:9
 judge-requires : tie.Need-judge-requires
 judge-requires c κs = (c .before .before .before .table .ensures, subst Modest (sym (c .before .before .ours .ensures)) ours-modest, refl)
 
--- src/lib.rt:153:37
 cast-refused-at : tie.Need-cast-refused-at
 cast-refused-at c = search needs
 
--- src/lib.rt:153:9
 refused-at-requires : tie.Need-refused-at-requires
 refused-at-requires c κs = search needs
 
--- src/lib.rt:153:9
 returns : tie.Need-returns
 returns c =
     let says = subst (λ (limits : Limits). Says limits (c .before .before .before .before .before .before .before .before .before .before .args .circuit .now) (c .before .before .before .before .judge .result) (c .before .before .before .before .judge .last .1 .1 .1 .0)) (c .before .before .before .before .before .before .before .ours .ensures) (c .before .before .before .before .judge .ensures) in
     let r = circuit-refused (c .before .before .before .before .before .before .before .before .before .before .args .circuit .now) (c .before .before .before .before .judge .result .number) (c .before .before .before .before .judge .result .place) (says .refuses (c .before .before .if1 .taken)) coldStart (c .before .before .before .before .before .before .before .before .before .before .args .rec .now) in
     (c .refused-at .ensures ∙ sym (r .answer), sym (r .words))
 
--- src/lib.rt:156:21
 size-of-requires : tie.Need-size-of-requires
 size-of-requires c κs =
     let says = subst (λ (limits : Limits). Says limits (c .before .before .before .before .before .before .before .before .before .args .circuit .now) (c .before .before .before .judge .result) (c .before .before .before .judge .last .1 .1 .1 .0)) (c .before .before .before .before .before .before .ours .ensures) (c .before .before .before .judge .ensures) in
     says .accepts (c .before .if1 .left) .few
 
--- src/lib.rt:157:9
 refused-at-requires-2 : tie.Need-refused-at-requires-2
 refused-at-requires-2 c κs = search needs
 
--- src/lib.rt:157:9
 returns-2 : tie.Need-returns-2
 returns-2 c =
     let says = subst (λ (limits : Limits). Says limits (c .before .before .before .before .before .before .before .before .before .before .before .before .args .circuit .now) (c .before .before .before .before .before .before .judge .result) (c .before .before .before .before .before .before .judge .last .1 .1 .1 .0)) (c .before .before .before .before .before .before .before .before .before .ours .ensures) (c .before .before .before .before .before .before .judge .ensures) in
     let r = cold-20 (c .before .before .before .before .before .before .before .before .before .before .before .before .args .circuit .now) (c .before .before .before .before .before .before .judge .result .head) (c .before .before .before .before .before .before .judge .last .1 .1 .1 .0) (says .accepts (c .before .before .before .before .if1 .left)) (c .before .before .before .before .before .before .before .before .before .before .before .before .args .rec .now) (rw (c .before .before .size-of .ensures) at (c .before .if2 .taken)) in
     (c .refused-at2 .ensures ∙ sym (r .answer), sym (r .words))
 
--- src/lib.rt:159:5
 cold-words-requires : tie.Need-cold-words-requires
 cold-words-requires c κs =
     let says = subst (λ (limits : Limits). Says limits (c .before .before .before .before .before .before .before .before .before .before .before .before .args .circuit .now) (c .before .before .before .before .before .before .judge .result) (c .before .before .before .before .before .before .judge .last .1 .1 .1 .0)) (c .before .before .before .before .before .before .before .before .before .ours .ensures) (c .before .before .before .before .before .before .judge .ensures) in
@@ -73,15 +54,12 @@ cold-words-requires c κs =
     let long = rw (c .before .before .size-of .ensures) at (c .before .if2 .left) in
     (omega arith, omega arith)
 
--- src/lib.rt:160:5
 accepted-with-requires : tie.Need-accepted-with-requires
 accepted-with-requires c κs = search needs
 
--- src/lib.rt:145:1
 same-length : tie.Need-same-length
 same-length c = search needs
 
--- src/lib.rt:145:1
 returns-3 : tie.Need-returns-3
 returns-3 c =
     let says = subst (λ (limits : Limits). Says limits (c .before .before .before .before .before .before .before .before .before .before .before .before .before .before .before .args .circuit .now) (c .before .before .before .before .before .before .before .before .before .judge .result) (c .before .before .before .before .before .before .before .before .before .judge .last .1 .1 .1 .0)) (c .before .before .before .before .before .before .before .before .before .before .before .before .ours .ensures) (c .before .before .before .before .before .before .before .before .before .judge .ensures) in

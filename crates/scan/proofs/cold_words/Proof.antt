@@ -7,29 +7,19 @@ use Rattle.scan.proofs.Effects.{cold-is}
 use borrow.Author.Needs.{needs}
 use Rattle.scan.proofs.cold_words.Statement.{statement}
 use Rattle.scan.proofs.cold_words.Tie as tie
-use Rattle.scan.proofs.cold_words.Reads as reads
-use Rattle.scan.proofs.cold_words.Lts as lts
-use Rattle.record.proofs.clear_all.Reads as clear-all-reads
-use Rattle.record.proofs.put_eighth.Reads as put-eighth-reads
-use Rattle.record.proofs.put_mark.Reads as put-mark-reads
 
--- src/lib.rt:25:5
 clear-all-requires : tie.Need-clear-all-requires
 clear-all-requires c κs = search needs
 
--- src/lib.rt:26:5
 put-mark-requires : tie.Need-put-mark-requires
 put-mark-requires c κs = search needs
 
--- src/lib.rt:27:5
 put-eighth-requires : tie.Need-put-eighth-requires
 put-eighth-requires c κs = search needs
 
--- src/lib.rt:21:1
 same-length : tie.Need-same-length
 same-length c = search needs
 
--- src/lib.rt:21:1
 returns : tie.Need-returns
 returns c =
     c .before .put-eighth .ensures

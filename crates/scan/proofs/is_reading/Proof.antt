@@ -1,7 +1,7 @@
 -- `scan::is_reading` meets its contract: the length, 24 bits, 8 values and e. Assumes nothing.
 use Prim.Native.Nat.{ℕ}
 use native.Mathlib.Nat.{zero-add}
-use mathlib.Core.Path.{_≡_, _∙_, ap}
+use mathlib.Core.Path.{_∙_, ap}
 use lib.IntN.{pos}
 use borrow.Author.Tests.{eq-eqb, ne-eqb}
 use Rattle.words.proofs.Locals.{back}
@@ -12,38 +12,26 @@ use Rattle.calls.specs.Calls.{isReading}
 use borrow.Author.Needs.{needs}
 use Rattle.scan.proofs.is_reading.Statement.{statement}
 use Rattle.scan.proofs.is_reading.Tie as tie
-use Rattle.scan.proofs.is_reading.Reads as reads
-use Rattle.scan.proofs.is_reading.Lts as lts
-use Rattle.record.proofs.run_fits.Reads as run-fits-reads
-use Rattle.words.proofs.both.Reads as both-reads
-use Rattle.words.proofs.within.Reads as within-reads
 
--- src/lib.rt:127:9
 returns : tie.Need-returns
 unfolding isReading
 returns c = rw (ne-eqb _ 32 (c .if1 .taken))
 
--- src/lib.rt:129:9
 run-fits-requires : tie.Need-run-fits-requires
 run-fits-requires c κs = search needs
 
--- src/lib.rt:130:9
 run-fits-requires-2 : tie.Need-run-fits-requires-2
 run-fits-requires-2 c κs = search needs
 
--- src/lib.rt:131:9
 within-requires : tie.Need-within-requires
 within-requires c κs = search needs
 
--- src/lib.rt:132:23
 both-requires : tie.Need-both-requires
 both-requires c κs = search needs
 
--- src/lib.rt:132:5
 both-requires-2 : tie.Need-both-requires-2
 both-requires-2 c κs = search needs
 
--- src/lib.rt:123:1
 returns-2 : tie.Need-returns-2
 unfolding isReading
 returns-2 c =

@@ -8,29 +8,19 @@ use Rattle.scan.proofs.Effects.{latch-is}
 use borrow.Author.Needs.{needs}
 use Rattle.scan.proofs.latch_words.Statement.{statement}
 use Rattle.scan.proofs.latch_words.Tie as tie
-use Rattle.scan.proofs.latch_words.Reads as reads
-use Rattle.scan.proofs.latch_words.Lts as lts
-use Rattle.record.proofs.put_elapsed.Reads as put-elapsed-reads
-use Rattle.record.proofs.put_inputs.Reads as put-inputs-reads
-use Rattle.record.proofs.put_phase.Reads as put-phase-reads
 
--- src/lib.rt:35:5
 put-inputs-requires : tie.Need-put-inputs-requires
 put-inputs-requires c κs = search needs
 
--- src/lib.rt:36:5
 put-elapsed-requires : tie.Need-put-elapsed-requires
 put-elapsed-requires c κs = search needs
 
--- src/lib.rt:37:5
 put-phase-requires : tie.Need-put-phase-requires
 put-phase-requires c κs = search needs
 
--- src/lib.rt:31:1
 same-length : tie.Need-same-length
 same-length c = search needs
 
--- src/lib.rt:31:1
 returns : tie.Need-returns
 returns c =
     let reading = rw (c .before .before .before .before .before .before .before .before .before .pre .1) at (c .before .before .before .before .before .before .before .put-inputs .ensures) in

@@ -2,27 +2,19 @@
 use Rattle.refusals.specs.declared.Limits.{Limits}
 use Rattle.circuit.specs.Judged.{Says}
 use Rattle.scan.proofs.Opening.{circuit-judged, stands, record-judged}
-use mathlib.Core.Path.{sym, _∙_, subst}
+use mathlib.Core.Path.{sym, subst}
 use Rattle.refusals.specs.Limited.{Modest}
 use Rattle.refusals.proofs.Laws.{ours-modest}
 use borrow.Author.Needs.{needs}
 use Rattle.scan.proofs.opened.Statement.{statement}
 use Rattle.scan.proofs.opened.Tie as tie
-use Rattle.scan.proofs.opened.Reads as reads
-use Rattle.scan.proofs.opened.Lts as lts
-use Rattle.circuit.proofs.judge.Reads as judge-reads
-use Rattle.refusals.proofs.ours.Reads as ours-reads
-use Rattle.scan.proofs.record_number.Reads as record-number-reads
 
--- src/lib.rt:112:33
 ours-requires : tie.Need-ours-requires
 ours-requires c κs = search needs
 
--- src/lib.rt:112:9
 judge-requires : tie.Need-judge-requires
 judge-requires c κs = (c .before .before .before .pre .0, subst Modest (sym (c .before .ours .ensures)) ours-modest, c .before .before .before .pre .1)
 
--- src/lib.rt:114:9
 returns : tie.Need-returns
 returns c =
     let s = c .before .before .before .before .before .before .args .circuit .now in
@@ -30,13 +22,11 @@ returns c =
     let says = subst (λ (limits : Limits). Says limits (c .before .before .before .before .before .before .args .circuit .now) (c .before .before .judge .result) (c .before .before .judge .last .1 .1 .1 .0)) (c .before .before .before .before .ours .ensures) (c .before .before .judge .ensures) in
     circuit-judged s (c .before .before .before .before .before .before .args .rec .now) (c .before .before .judge .result) offsets says (c .if1 .taken)
 
--- src/lib.rt:117:9
 record-number-requires : tie.Need-record-number-requires
 record-number-requires c κs =
     let says = subst (λ (limits : Limits). Says limits (c .before .before .before .before .before .before .before .before .args .circuit .now) (c .before .before .before .before .judge .result) (c .before .before .before .before .judge .last .1 .1 .1 .0)) (c .before .before .before .before .before .before .ours .ensures) (c .before .before .before .before .judge .ensures) in
     (c .before .before .before .before .before .before .before .before .pre .0, stands (c .before .before .before .before .before .before .before .before .args .circuit .now) (c .before .before .before .before .judge .result .head) (c .before .before .before .before .judge .last .1 .1 .1 .0) (says .accepts (c .before .before .if1 .left)))
 
--- src/lib.rt:103:1
 returns-2 : tie.Need-returns-2
 returns-2 c =
     let says = subst (λ (limits : Limits). Says limits (c .before .before .before .before .before .before .before .before .before .args .circuit .now) (c .before .before .before .before .before .judge .result) (c .before .before .before .before .before .judge .last .1 .1 .1 .0)) (c .before .before .before .before .before .before .before .ours .ensures) (c .before .before .before .before .before .judge .ensures) in

@@ -3,28 +3,19 @@ use borrow.Author.Tests.{eq-eqb, ne-eqb}
 use borrow.Author.Needs.{needs}
 use Rattle.scan.proofs.record_number.Statement.{statement}
 use Rattle.scan.proofs.record_number.Tie as tie
-use Rattle.scan.proofs.record_number.Reads as reads
-use Rattle.scan.proofs.record_number.Lts as lts
-use Rattle.record.proofs.is_sound.Reads as is-sound-reads
-use Rattle.record.proofs.size_of.Reads as size-of-reads
 
--- src/lib.rt:93:21
 size-of-requires : tie.Need-size-of-requires
 size-of-requires c κs = search needs
 
--- src/lib.rt:94:9
 returns : tie.Need-returns
 returns c = rw (ne-eqb _ _ (rw (c .before .size-of .ensures) at (c .if1 .taken)))
 
--- src/lib.rt:96:8
 is-sound-requires : tie.Need-is-sound-requires
 is-sound-requires c κs = search needs
 
--- src/lib.rt:97:9
 returns-2 : tie.Need-returns-2
 returns-2 c = rw (eq-eqb _ _ (rw (c .before .before .before .size-of .ensures) at (c .before .before .if1 .left)), ← c .before .is-sound .ensures, c .if2 .taken)
 
--- src/lib.rt:83:1
 returns-3 : tie.Need-returns-3
 returns-3 c = rw (eq-eqb _ _ (rw (c .before .before .before .size-of .ensures) at (c .before .before .if1 .left)), ← c .before .is-sound .ensures, c .if2 .left)
 

@@ -5,74 +5,52 @@ use Rattle.scan.proofs.Answered.{warm-22, warm-done}
 use borrow.Author.Needs.{needs}
 use Rattle.scan.proofs.warm_start.Statement.{statement}
 use Rattle.scan.proofs.warm_start.Tie as tie
-use Rattle.scan.proofs.warm_start.Reads as reads
-use Rattle.scan.proofs.warm_start.Lts as lts
-use Rattle.kinds.proofs.table.Reads as table-reads
-use Rattle.record.proofs.in_scan.Reads as in-scan-reads
-use Rattle.refusals.proofs.accepted_with.Reads as accepted-with-reads
-use Rattle.refusals.proofs.refused_at.Reads as refused-at-reads
-use Rattle.scan.proofs.opened.Reads as opened-reads
-use Rattle.scan.proofs.warm_words.Reads as warm-words-reads
 
--- src/lib.rt:168:17
 table-requires : tie.Need-table-requires
 table-requires c κs = search needs
 
--- src/lib.rt:170:9
 opened-requires : tie.Need-opened-requires
 opened-requires c κs = search needs
 
--- src/lib.rt:172:37
 cast-refused-at : tie.Need-cast-refused-at
 cast-refused-at c = search needs
 
--- src/lib.rt:172:9
 refused-at-requires : tie.Need-refused-at-requires
 refused-at-requires c κs = search needs
 
--- src/lib.rt:172:9
 same-length : tie.Need-same-length
 same-length c = search needs
 
--- src/lib.rt:172:9
 returns : tie.Need-returns
 returns c =
     let r = c .before .before .before .before .opened .ensures .refuses (c .before .before .if1 .taken) warmStart refl in
     (c .refused-at .ensures ∙ sym (r .answer), sym (r .words))
 
--- src/lib.rt:174:8
 in-scan-requires : tie.Need-in-scan-requires
 in-scan-requires c κs = search needs
 
--- src/lib.rt:175:9
 refused-at-requires-2 : tie.Need-refused-at-requires-2
 refused-at-requires-2 c κs = search needs
 
--- src/lib.rt:175:9
 same-length-2 : tie.Need-same-length-2
 same-length-2 c = search needs
 
--- src/lib.rt:175:9
 returns-2 : tie.Need-returns-2
 returns-2 c =
     let r = warm-22 (c .before .before .before .before .before .before .before .before .before .before .before .before .args .circuit .now) (c .before .before .before .before .before .before .before .before .before .before .before .before .args .rec .now) (c .before .before .before .before .before .before .opened .result .head) (c .before .before .before .before .before .before .opened .last .1 .1 .1 .0) (c .before .before .before .before .before .before .opened .ensures .accepts (c .before .before .before .before .if1 .left)) (sym (c .before .before .in-scan .ensures) ∙ c .before .if2 .taken) in
     (c .refused-at2 .ensures ∙ sym (r .answer), sym (r .words))
 
--- src/lib.rt:178:5
 warm-words-requires : tie.Need-warm-words-requires
 warm-words-requires c κs =
     let runs = c .before .before .before .before .before .before .before .before .before .opened .ensures .accepts (c .before .before .before .before .before .before .before .if1 .left) .runs in
     (c .before .before .before .before .before .before .before .before .before .before .before .before .before .table .ensures, runs .stand, runs .long)
 
--- src/lib.rt:179:5
 accepted-with-requires : tie.Need-accepted-with-requires
 accepted-with-requires c κs = search needs
 
--- src/lib.rt:164:1
 same-length-3 : tie.Need-same-length-3
 same-length-3 c = search needs
 
--- src/lib.rt:164:1
 returns-3 : tie.Need-returns-3
 returns-3 c =
     let r = warm-done (c .before .before .before .before .before .before .before .before .before .before .before .before .before .before .before .before .before .before .args .circuit .now) (c .before .before .before .before .before .before .before .before .before .before .before .before .before .before .before .before .before .before .args .rec .now) (c .before .before .before .before .before .before .before .before .before .before .before .before .opened .result .head) (c .before .before .before .before .before .before .before .before .before .before .before .before .opened .last .1 .1 .1 .0) (c .before .before .before .before .before .before .before .before .before .before .before .before .opened .ensures .accepts (c .before .before .before .before .before .before .before .before .before .before .if1 .left)) (sym (c .before .before .before .before .before .before .before .before .in-scan .ensures) ∙ c .before .before .before .before .before .before .before .if2 .left) in

@@ -8,34 +8,22 @@ use Rattle.scan.proofs.Effects.{warm-is}
 use borrow.Author.Needs.{needs}
 use Rattle.scan.proofs.warm_words.Statement.{statement}
 use Rattle.scan.proofs.warm_words.Tie as tie
-use Rattle.scan.proofs.warm_words.Reads as reads
-use Rattle.scan.proofs.warm_words.Lts as lts
-use Rattle.record.proofs.clear_fixed.Reads as clear-fixed-reads
-use Rattle.record.proofs.put_eighth.Reads as put-eighth-reads
-use Rattle.record.proofs.put_mark.Reads as put-mark-reads
-use Rattle.scan.proofs.clear_blocks.Reads as clear-blocks-reads
 
--- src/lib.rt:69:5
 clear-blocks-requires : tie.Need-clear-blocks-requires
 clear-blocks-requires c κs = search needs
 
--- src/lib.rt:70:5
 clear-fixed-requires : tie.Need-clear-fixed-requires
 clear-fixed-requires c κs = search needs
 
--- src/lib.rt:71:5
 put-mark-requires : tie.Need-put-mark-requires
 put-mark-requires c κs = search needs
 
--- src/lib.rt:72:5
 put-eighth-requires : tie.Need-put-eighth-requires
 put-eighth-requires c κs = search needs
 
--- src/lib.rt:65:1
 same-length : tie.Need-same-length
 same-length c = search needs
 
--- src/lib.rt:65:1
 returns : tie.Need-returns
 returns c =
     let cleared = c .before .before .before .before .before .before .before .clear-fixed .ensures ∙ ap (λ (l : List ℤ). putAll l (indexOf phase) (sizeOf 0) nothing) (c .before .before .before .before .before .before .before .before .before .before .clear-blocks .ensures) in

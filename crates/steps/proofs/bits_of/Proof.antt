@@ -5,64 +5,46 @@ use Rattle.steps.specs.Steps.{bitsOf}
 use borrow.Author.Needs.{needs}
 use Rattle.steps.proofs.bits_of.Statement.{statement}
 use Rattle.steps.proofs.bits_of.Tie as tie
-use Rattle.steps.proofs.bits_of.Reads as reads
-use Rattle.steps.proofs.bits_of.Lts as lts
-use Rattle.kinds.proofs.unused_counts.Reads as unused-counts-reads
-use Rattle.steps.proofs.bit_from.Reads as bit-from-reads
 
--- src/lib.rt:64:9
 unused-counts-requires : tie.Need-unused-counts-requires
 unused-counts-requires c κs = lent (c .args .kinds .now) (c .args .line .kind) (c .pre .0) (c .pre .1 .is-known)
 
--- src/lib.rt:68:31
 array-read-bit-from : tie.Need-array-read-bit-from
 array-read-bit-from c = search needs
 
--- src/lib.rt:68:43
 array-read-bit-from-2 : tie.Need-array-read-bit-from-2
 array-read-bit-from-2 c = search needs
 
--- src/lib.rt:68:9
 bit-from-requires : tie.Need-bit-from-requires
 bit-from-requires c κs = c .before .before .before .pre .1 .wired 0 (omega arith) .small
 
--- src/lib.rt:69:31
 array-read-bit-from-3 : tie.Need-array-read-bit-from-3
 array-read-bit-from-3 c = search needs
 
--- src/lib.rt:69:43
 array-read-bit-from-4 : tie.Need-array-read-bit-from-4
 array-read-bit-from-4 c = search needs
 
--- src/lib.rt:69:9
 bit-from-requires-2 : tie.Need-bit-from-requires-2
 bit-from-requires-2 c κs = c .before .before .before .before .pre .1 .wired 1 (omega arith) .small
 
--- src/lib.rt:70:31
 array-read-bit-from-5 : tie.Need-array-read-bit-from-5
 array-read-bit-from-5 c = search needs
 
--- src/lib.rt:70:43
 array-read-bit-from-6 : tie.Need-array-read-bit-from-6
 array-read-bit-from-6 c = search needs
 
--- src/lib.rt:70:9
 bit-from-requires-3 : tie.Need-bit-from-requires-3
 bit-from-requires-3 c κs = c .before .before .before .before .before .pre .1 .wired 2 (omega arith) .small
 
--- src/lib.rt:71:31
 array-read-bit-from-7 : tie.Need-array-read-bit-from-7
 array-read-bit-from-7 c = search needs
 
--- src/lib.rt:71:43
 array-read-bit-from-8 : tie.Need-array-read-bit-from-8
 array-read-bit-from-8 c = search needs
 
--- src/lib.rt:71:9
 bit-from-requires-4 : tie.Need-bit-from-requires-4
 bit-from-requires-4 c κs = c .before .before .before .before .before .before .pre .1 .wired 3 (omega arith) .small
 
--- src/lib.rt:60:1
 returns : tie.Need-returns
 unfolding bitsOf
 returns c = rw (← c .before .before .before .before .before .before .unused-counts .ensures, c .before .before .before .bit-from .ensures, c .before .before .bit-from2 .ensures, c .before .bit-from3 .ensures, c .bit-from4 .ensures)

@@ -5,30 +5,21 @@ use Rattle.steps.specs.Steps.{plainBit}
 use borrow.Author.Needs.{needs}
 use Rattle.steps.proofs.plain_bit.Statement.{statement}
 use Rattle.steps.proofs.plain_bit.Tie as tie
-use Rattle.steps.proofs.plain_bit.Reads as reads
-use Rattle.steps.proofs.plain_bit.Lts as lts
-use Rattle.steps.proofs.value_from.Reads as value-from-reads
-use Rattle.words.proofs.bit_of.Reads as bit-of-reads
 
--- src/lib.rt:43:9
 returns : tie.Need-returns
 unfolding plainBit
 returns c = rw (eq-eqb _ 0 (c .if1 .taken))
 
--- src/lib.rt:46:9
 returns-2 : tie.Need-returns-2
 unfolding plainBit
 returns-2 c = rw (ne-eqb _ 0 (c .before .if1 .left), eq-eqb _ 3 (c .if2 .taken))
 
--- src/lib.rt:48:19
 value-from-requires : tie.Need-value-from-requires
 value-from-requires c κs = search needs
 
--- src/lib.rt:48:5
 bit-of-requires : tie.Need-bit-of-requires
 bit-of-requires c κs = search needs
 
--- src/lib.rt:37:1
 returns-3 : tie.Need-returns-3
 unfolding plainBit
 returns-3 c = rw (ne-eqb _ 0 (c .before .before .before .if1 .left), ne-eqb _ 3 (c .before .before .if2 .left), ← c .before .value-from .ensures) (rw (back-ok (c .before .value-from .result) (c .before .value-from .ok)) at (c .bit-of .ensures))

@@ -3,36 +3,25 @@ use native.Mathlib.Omega.{arith}
 use borrow.Author.Needs.{needs}
 use Rattle.steps.proofs.step_at.Statement.{statement}
 use Rattle.steps.proofs.step_at.Tie as tie
-use Rattle.steps.proofs.step_at.Reads as reads
-use Rattle.steps.proofs.step_at.Lts as lts
-use Rattle.lines.proofs.line_at.Reads as line-at-reads
-use Rattle.steps.proofs.step.Reads as step-reads
 
--- src/lib.rt:126:45
 mul-line-at : tie.Need-mul-line-at
 mul-line-at c = search needs
 
--- src/lib.rt:126:45
 element-copy-out-line-at : tie.Need-element-copy-out-line-at
 element-copy-out-line-at c = search needs
 
--- src/lib.rt:126:9
 line-at-requires : tie.Need-line-at-requires
 line-at-requires c κs = (c .before .before .pre .0, c .before .before .pre .1 .lies)
 
--- src/lib.rt:127:22
 add-step : tie.Need-add-step
 add-step c = search needs
 
--- src/lib.rt:127:5
 step-requires : tie.Need-step-requires
 step-requires c κs = (c .before .before .before .before .pre .0, rw (c .before .line-at .ensures) (c .before .before .before .before .pre .1 .fine), rw (c .before .line-at .ensures) (c .before .before .before .before .pre .1 .values), omega (arith, c .before .before .before .before .pre .1 .low))
 
--- src/lib.rt:122:1
 same-length : tie.Need-same-length
 same-length c = search needs
 
--- src/lib.rt:122:1
 returns : tie.Need-returns
 returns c = rw (← c .before .before .before .line-at .ensures) (c .before .step .ensures)
 

@@ -1,55 +1,39 @@
 -- `steps::turn` meets its contract: as many steps as asked or as remain, then the blocks done. Assumes nothing.
-use Prim.Native.Nat.{_-_, _≤_}
+use Prim.Native.Nat.{_-_}
 use native.Mathlib.Omega.{arith}
-use mathlib.Core.Path.{_≡_, refl}
-use Rattle.steps.specs.Steps.{doneOf, turned}
+use Rattle.steps.specs.Steps.{turned}
 use Rattle.record.proofs.Split.{lines-length}
 use Rattle.steps.proofs.Running.{done-within}
 use borrow.Author.Needs.{needs}
 use Rattle.steps.proofs.turn.Statement.{statement}
 use Rattle.steps.proofs.turn.Tie as tie
-use Rattle.steps.proofs.turn.Reads as reads
-use Rattle.steps.proofs.turn.Lts as lts
-use Rattle.record.proofs.done_of.Reads as done-of-reads
-use Rattle.record.proofs.put_done.Reads as put-done-reads
-use Rattle.steps.proofs.least.Reads as least-reads
-use Rattle.steps.proofs.steps_from.Reads as steps-from-reads
 
--- src/lib.rt:164:9
 done-of-requires : tie.Need-done-of-requires
 done-of-requires c κs = search needs
 
--- src/lib.rt:165:16
 sub-left : tie.Need-sub-left
 sub-left c = omega (arith, c .done-of .ensures .0, done-within (c .before .before .before .args .bytes .now) (c .before .before .before .args .n) (c .before .before .before .args .offsets .now) (c .before .before .before .args .rec .now) (c .before .before .before .pre .1))
 
--- src/lib.rt:166:9
 least-requires : tie.Need-least-requires
 least-requires c κs = search needs
 
--- src/lib.rt:167:5
 steps-from-requires : tie.Need-steps-from-requires
 steps-from-requires c κs =
     let fewer = done-within (c .before .before .before .before .before .args .bytes .now) (c .before .before .before .before .before .args .n) (c .before .before .before .before .before .args .offsets .now) (c .before .before .before .before .before .args .rec .now) (c .before .before .before .before .before .pre .1) in
     (c .before .before .before .before .before .pre .0, c .before .before .before .before .before .pre .1, omega (arith, c .before .before .done-of .ensures .0, fewer, c .before .least .ensures))
 
--- src/lib.rt:168:27
 add-put-done : tie.Need-add-put-done
 add-put-done c = search needs
 
--- src/lib.rt:168:5
 put-done-requires : tie.Need-put-done-requires
 put-done-requires c κs = omega (arith, c .before .before .before .before .before .done-of .ensures .0, done-within (c .before .before .before .before .before .before .before .before .args .bytes .now) (c .before .before .before .before .before .before .before .before .args .n) (c .before .before .before .before .before .before .before .before .args .offsets .now) (c .before .before .before .before .before .before .before .before .args .rec .now) (c .before .before .before .before .before .before .before .before .pre .1), c .before .before .before .before .least .ensures, c .before .before .before .before .before .before .before .before .pre .1 .stand .few)
 
--- src/lib.rt:171:15
 sub-t12 : tie.Need-sub-t12
 sub-t12 c = search needs
 
--- src/lib.rt:151:1
 same-length : tie.Need-same-length
 same-length c = search needs
 
--- src/lib.rt:151:1
 returns : tie.Need-returns
 unfolding turned
 returns c =

@@ -5,63 +5,43 @@ use Rattle.steps.proofs.Sources.{reads-input, reads-flag, reads-block, 
 use borrow.Author.Needs.{needs}
 use Rattle.steps.proofs.value_from.Statement.{statement}
 use Rattle.steps.proofs.value_from.Tie as tie
-use Rattle.steps.proofs.value_from.Reads as reads
-use Rattle.steps.proofs.value_from.Lts as lts
-use Rattle.record.proofs.analog_at.Reads as analog-at-reads
-use Rattle.record.proofs.analog_flag_at.Reads as analog-flag-at-reads
-use Rattle.record.proofs.flag_at.Reads as flag-at-reads
-use Rattle.record.proofs.input_at.Reads as input-at-reads
-use Rattle.record.proofs.output_at.Reads as output-at-reads
 
--- src/lib.rt:26:14
 input-at-requires : tie.Need-input-at-requires
 input-at-requires c κs = search needs
 
--- src/lib.rt:27:14
 flag-at-requires : tie.Need-flag-at-requires
 flag-at-requires c κs = search needs
 
--- src/lib.rt:28:14
 output-at-requires : tie.Need-output-at-requires
 output-at-requires c κs = search needs
 
--- src/lib.rt:29:14
 analog-at-requires : tie.Need-analog-at-requires
 analog-at-requires c κs = search needs
 
--- src/lib.rt:30:14
 analog-flag-at-requires : tie.Need-analog-flag-at-requires
 analog-flag-at-requires c κs = search needs
 
--- src/lib.rt:31:14
 output-at-requires-2 : tie.Need-output-at-requires-2
 output-at-requires-2 c κs = search needs
 
--- src/lib.rt:20:1
 returns : tie.Need-returns
 returns c = rw (reads-input (connector (c .before .before .args .class) (c .before .before .args .number)) (c .before .match .keys1)) (back-to (c .input-at .result) (c .input-at .ok) (c .input-at .ensures))
 
--- src/lib.rt:20:1
 returns-2 : tie.Need-returns-2
 returns-2 c = rw (reads-flag (connector (c .before .before .args .class) (c .before .before .args .number)) (c .before .match .keys2)) (back-to (c .flag-at .result) (c .flag-at .ok) (c .flag-at .ensures))
 
--- src/lib.rt:20:1
 returns-3 : tie.Need-returns-3
 returns-3 c = rw (reads-block (connector (c .before .before .args .class) (c .before .before .args .number)) (c .before .match .keys3)) (back-to (c .output-at .result) (c .output-at .ok) (c .output-at .ensures))
 
--- src/lib.rt:20:1
 returns-4 : tie.Need-returns-4
 returns-4 c = rw (reads-analog (connector (c .before .before .args .class) (c .before .before .args .number)) (c .before .match .keys4)) (back-to (c .analog-at .result) (c .analog-at .ok) (c .analog-at .ensures))
 
--- src/lib.rt:20:1
 returns-5 : tie.Need-returns-5
 returns-5 c = rw (reads-analogFlag (connector (c .before .before .args .class) (c .before .before .args .number)) (c .before .match .keys5)) (back-to (c .analog-flag-at .result) (c .analog-flag-at .ok) (c .analog-flag-at .ensures))
 
--- src/lib.rt:20:1
 returns-6 : tie.Need-returns-6
 returns-6 c = rw (reads-analog-block (connector (c .before .before .args .class) (c .before .before .args .number)) (c .before .match .keys6)) (back-to (c .output-at2 .result) (c .output-at2 .ok) (c .output-at2 .ensures))
 
--- src/lib.rt:20:1
 returns-7 : tie.Need-returns-7
 returns-7 c = rw (reads-none (connector (c .before .args .class) (c .before .args .number)) (c .match .rest))
 

@@ -5,35 +5,25 @@ use Rattle.steps.specs.Steps.{valuesOf}
 use borrow.Author.Needs.{needs}
 use Rattle.steps.proofs.values_of.Statement.{statement}
 use Rattle.steps.proofs.values_of.Tie as tie
-use Rattle.steps.proofs.values_of.Reads as reads
-use Rattle.steps.proofs.values_of.Lts as lts
-use Rattle.steps.proofs.value_from.Reads as value-from-reads
 
--- src/lib.rt:82:29
 array-read-value-from : tie.Need-array-read-value-from
 array-read-value-from c = search needs
 
--- src/lib.rt:82:41
 array-read-value-from-2 : tie.Need-array-read-value-from-2
 array-read-value-from-2 c = search needs
 
--- src/lib.rt:82:9
 value-from-requires : tie.Need-value-from-requires
 value-from-requires c κs = c .before .before .pre .wired 0 (omega arith) .small
 
--- src/lib.rt:83:29
 array-read-value-from-3 : tie.Need-array-read-value-from-3
 array-read-value-from-3 c = search needs
 
--- src/lib.rt:83:41
 array-read-value-from-4 : tie.Need-array-read-value-from-4
 array-read-value-from-4 c = search needs
 
--- src/lib.rt:83:9
 value-from-requires-2 : tie.Need-value-from-requires-2
 value-from-requires-2 c κs = c .before .before .before .pre .wired 1 (omega arith) .small
 
--- src/lib.rt:76:1
 returns : tie.Need-returns
 unfolding valuesOf
 returns c = rw (back-to (c .before .value-from .result) (c .before .value-from .ok) (c .before .value-from .ensures), back-to (c .value-from2 .result) (c .value-from2 .ok) (c .value-from2 .ensures))
