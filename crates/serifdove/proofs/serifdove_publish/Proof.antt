@@ -2,23 +2,16 @@
 use borrow.Author.Needs.{needs}
 use Rattle.serifdove.proofs.serifdove_publish.Statement.{statement}
 use Rattle.serifdove.proofs.serifdove_publish.Tie as tie
-use Rattle.serifdove.proofs.serifdove_publish.Reads as reads
-use Rattle.serifdove.proofs.serifdove_publish.Lts as lts
-use Rattle.scan.proofs.publish.Reads as publish-reads
 
--- src/lib.rt:67:5
 publish-requires : tie.Need-publish-requires
 publish-requires c κs = search needs
 
--- src/lib.rt:60:1
 same-length : tie.Need-same-length
 same-length c = search needs
 
--- src/lib.rt:60:1
 same-length-2 : tie.Need-same-length-2
 same-length-2 c = search needs
 
--- src/lib.rt:60:1
 returns : tie.Need-returns
 returns c = c .before .before .publish .ensures
 
