@@ -54,7 +54,7 @@ add-signed-four-at : tie.Need-add-signed-four-at
 add-signed-four-at c = search needs
 
 signed-four-at-requires-2 : tie.Need-signed-four-at-requires-2
-signed-four-at-requires-2 c κs = pair-there (c .before) .inside
+signed-four-at-requires-2 c κs = omega (arith, pair-there (c .before) .inside)
 
 setting-of-requires : tie.Need-setting-of-requires
 setting-of-requires c κs =
