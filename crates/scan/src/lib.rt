@@ -12,7 +12,7 @@ ghost use Rattle.refusals.specs.Faults.{_when_, lowest};
 ghost use Rattle.blockfield.specs.Marked.{Lies};
 ghost use Rattle.decoding.specs.Decoded.{blockAt};
 ghost use Rattle.lines.specs.Lines.{lineOf};
-ghost use Rattle.record.specs.Places.{sizeOf, putWords, change};
+ghost use Rattle.record.specs.Places.{mark, flag, sizeOf, put, putWords, change};
 ghost use Rattle.record.specs.Sound.{sound, inScan};
 ghost use Rattle.record.specs.Written.{linesAt, Stand};
 ghost use Rattle.steps.specs.Steps.{doneOf};
@@ -24,14 +24,21 @@ use refusals::Answer;
 
 // ---- effects
 
+// The mark and M8 become 1.
+fn begin(rec: &mut [i32])
+    ensures { λ r. ⌜ now (rec .exit) ≡ put (put (now (rec .entry)) mark (pos 1)) (flag 8) (pos 1) ⌝ }
+{
+    record::put_mark(rec, 1);
+    record::put_eighth(rec, 1);
+}
+
 // What an accepted cold start does.
 fn cold_words(rec: &mut [i32])
     requires { ⌜ (164 ≤ length (now rec)) × (length (now rec) ≤ 2000) ⌝ }
     ensures { λ r. ⌜ now (rec .exit) ≡ change coldWord (now (rec .entry)) ⌝ }
 {
     record::clear_all(rec);
-    record::put_mark(rec, 1);
-    record::put_eighth(rec, 1);
+    begin(rec);
 }
 
 // What an accepted latch does.
@@ -75,8 +82,7 @@ fn warm_words(kinds: &KindTable, bytes: &[u8], offsets: &[usize; 400], rec: &mut
 {
     clear_blocks(kinds, bytes, offsets, rec, n);
     record::clear_fixed(rec);
-    record::put_mark(rec, 1);
-    record::put_eighth(rec, 1);
+    begin(rec);
 }
 
 // ---- judging

@@ -1,9 +1,12 @@
 -- `destinations::publish_words` meets its contract: the slots, filled from the old words, are the outputs and the flags; then M8 and the
 -- head. Assumes nothing.
+use Prim.Native.Nat.{ℕ}
 use native.Mathlib.Omega.{arith}
 use mathlib.Core.Path.{_∙_, ap}
 use lib.ListN.{take, drop}
 use Rattle.decoding.specs.Held.{rowsAt}
+use Rattle.record.specs.Places.{at}
+use Rattle.record.specs.Written.{putAll}
 use Rattle.destinations.proofs.Filled.{part-of, outputs-are}
 use Rattle.destinations.proofs.Published.{headless, published}
 use borrow.Author.Needs.{needs}
@@ -72,7 +75,9 @@ returns c =
     let flags = part-of rows l slots 28 128 (fill .ensures) (omega arith) in (
       rw (← published rows l fine (start .pre .1) (take 128 (drop 28 slots)) flags, ← marked .ensures, ← rw (flags .long) at (stores .ensures))
           (head .ensures ∙ ap headless (eighth .ensures)),
-      rw (← outputs-are rows l fine (start .args .outs .now) (take 28 (drop 0 slots)) (start .pre .2) outputs) (rw (outputs .long) at (shows .ensures)),
+      shows .ensures
+          ∙ ap (λ (n : ℕ). putAll (start .args .outs .now) 0 n (at (take 28 (drop 0 slots)))) (outputs .long)
+          ∙ outputs-are rows l fine (start .args .outs .now) (take 28 (drop 0 slots)) (start .pre .2) outputs,
     )
 
 pub publish-words-spec : {M : Type 1} → statement M

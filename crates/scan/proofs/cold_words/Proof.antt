@@ -11,22 +11,17 @@ use Rattle.scan.proofs.cold_words.Tie as tie
 clear-all-requires : tie.Need-clear-all-requires
 clear-all-requires c κs = search needs
 
-put-mark-requires : tie.Need-put-mark-requires
-put-mark-requires c κs = search needs
-
-put-eighth-requires : tie.Need-put-eighth-requires
-put-eighth-requires c κs = search needs
+begin-requires : tie.Need-begin-requires
+begin-requires c κs = search needs
 
 same-length : tie.Need-same-length
 same-length c = search needs
 
 returns : tie.Need-returns
 returns c =
-    c .before .put-eighth .ensures
-    ∙ ap (λ (l : List ℤ). put l (flag 8) (pos 1)) (c .before .before .before .before .put-mark .ensures ∙ ap (λ (l : List ℤ). put l mark (pos 1)) (c .before .before .before .before .before .before .before .clear-all .ensures))
-    ∙ cold-is (c .before .before .before .before .before .before .before .before .before .args .rec .now) (c .before .before .before .before .before .before .before .before .before .pre .0)
+    c .before .begin .ensures
+    ∙ ap (λ (l : List ℤ). put (put l mark (pos 1)) (flag 8) (pos 1)) (c .before .before .before .before .clear-all .ensures)
+    ∙ cold-is (c .before .before .before .before .before .before .args .rec .now) (c .before .before .before .before .before .before .pre .0)
 
 pub cold-words-spec : {M : Type 1} → statement M
-cold-words-spec =
-    tie.close
-    (tie.spec clear-all-requires put-mark-requires put-eighth-requires same-length returns)
+cold-words-spec = tie.close (tie.spec clear-all-requires begin-requires same-length returns)

@@ -15,29 +15,20 @@ clear-blocks-requires c κs = search needs
 clear-fixed-requires : tie.Need-clear-fixed-requires
 clear-fixed-requires c κs = search needs
 
-put-mark-requires : tie.Need-put-mark-requires
-put-mark-requires c κs = search needs
-
-put-eighth-requires : tie.Need-put-eighth-requires
-put-eighth-requires c κs = search needs
+begin-requires : tie.Need-begin-requires
+begin-requires c κs = search needs
 
 same-length : tie.Need-same-length
 same-length c = search needs
 
 returns : tie.Need-returns
 returns c =
-    let cleared = c .before .before .before .before .before .before .before .clear-fixed .ensures ∙ ap (λ (l : List ℤ). putAll l (indexOf phase) (sizeOf 0) nothing) (c .before .before .before .before .before .before .before .before .before .before .clear-blocks .ensures) in
-    c .before .put-eighth .ensures
-    ∙ ap (λ (l : List ℤ). put l (flag 8) (pos 1)) (c .before .before .before .before .put-mark .ensures ∙ ap (λ (l : List ℤ). put l mark (pos 1)) cleared)
-    ∙ warm-is (c .before .before .before .before .before .before .before .before .before .before .before .before .before .args .bytes .now) (c .before .before .before .before .before .before .before .before .before .before .before .before .before .args .n) (c .before .before .before .before .before .before .before .before .before .before .before .before .before .args .offsets .now) (c .before .before .before .before .before .before .before .before .before .before .before .before .before .pre .1) (c .before .before .before .before .before .before .before .before .before .before .before .before .before .args .rec .now) (c .before .before .before .before .before .before .before .before .before .before .before .before .before .pre .2)
+    let cleared = c .before .before .before .before .clear-fixed .ensures ∙ ap (λ (l : List ℤ). putAll l (indexOf phase) (sizeOf 0) nothing) (c .before .before .before .before .before .before .before .clear-blocks .ensures) in
+    c .before .begin .ensures
+    ∙ ap (λ (l : List ℤ). put (put l mark (pos 1)) (flag 8) (pos 1)) cleared
+    ∙ warm-is (c .before .before .before .before .before .before .before .before .before .before .args .bytes .now) (c .before .before .before .before .before .before .before .before .before .before .args .n) (c .before .before .before .before .before .before .before .before .before .before .args .offsets .now) (c .before .before .before .before .before .before .before .before .before .before .pre .1) (c .before .before .before .before .before .before .before .before .before .before .args .rec .now) (c .before .before .before .before .before .before .before .before .before .before .pre .2)
 
 pub warm-words-spec : {M : Type 1} → statement M
 warm-words-spec =
     tie.close
-    (tie.spec
-    clear-blocks-requires
-    clear-fixed-requires
-    put-mark-requires
-    put-eighth-requires
-    same-length
-    returns)
+    (tie.spec clear-blocks-requires clear-fixed-requires begin-requires same-length returns)
