@@ -18,7 +18,7 @@ const GREATEST_DIGITAL: usize = 2;
 const SLOTS: usize = 156;
 
 // Those of the outputs, Q and AQ.
-const OUTPUTS: usize = 28;
+pub const OUTPUTS: usize = 28;
 
 // Seven bits for each destination class, 4 to 0: the slots before its own, 92, 20, 28, 0, 0.
 const BASES: usize = 0b1011100_0010100_0011100_0000000_0000000;

@@ -51,14 +51,14 @@ const FIRST_BLOCK: usize = 164;
 // ---- one word
 
 // The word at an index, 0 past the end.
-pub fn word_at(rec: &[i32], i: usize) -> i32
+fn word_at(rec: &[i32], i: usize) -> i32
     ensures { λ r. ⌜ r ≡ at (now (rec .entry)) i ⌝ }
 {
     if i < rec.len() { rec[i] } else { 0 }
 }
 
 // Stores a word at an index; nothing past the end.
-pub fn put_word(rec: &mut [i32], i: usize, z: i32)
+fn put_word(rec: &mut [i32], i: usize, z: i32)
     ensures { λ r. ⌜ now (rec .exit) ≡ set (now (rec .entry)) i z ⌝ }
 {
     if i < rec.len() {

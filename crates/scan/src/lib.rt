@@ -19,8 +19,20 @@ ghost use Rattle.steps.specs.Steps.{doneOf};
 ghost use Rattle.calls.specs.Calls.{coldStart, warmStart, latch as latchCall, run as runCall, publish as publishCall, coldWord, warmWord, latchWord, isReading, answerAfter, recordAfter, outputsAfter};
 ghost use Rattle.scan.specs.Opened.{clearedUpTo, Opens};
 use circuit::Outcome;
+use destinations::OUTPUTS;
 use kinds::KindTable;
 use refusals::Answer;
+
+// A reading: 24 bits, then 8 values; the greatest value, and the greatest e.
+const READING: usize = 32;
+
+const BITS: usize = 24;
+
+const VALUES: usize = 8;
+
+const GREATEST_VALUE: i32 = 1000;
+
+const GREATEST_E: i32 = 65535;
 
 // ---- effects
 
@@ -129,12 +141,12 @@ fn opened(kinds: &KindTable, circuit: &[u8], rec: &[i32], offsets: &mut [usize; 
 fn is_reading(inputs: &[i32], e: i32) -> bool
     ensures { λ r. ⌜ r ≡ isReading (now (inputs .entry)) e ⌝ }
 {
-    if inputs.len() != 32 {
+    if inputs.len() != READING {
         return false;
     }
-    let bits = record::run_fits(inputs, 0, 24, 0, 1);
-    let values = record::run_fits(inputs, 24, 8, 0, 1000);
-    let time = words::within(e, 0, 65535);
+    let bits = record::run_fits(inputs, 0, BITS, 0, 1);
+    let values = record::run_fits(inputs, BITS, VALUES, 0, GREATEST_VALUE);
+    let time = words::within(e, 0, GREATEST_E);
     words::both(bits, words::both(values, time))
 }
 
@@ -239,7 +251,7 @@ pub fn publish(circuit: &[u8], rec: &mut [i32], outs: &mut [i32]) -> Answer
     }
     let head = judged.head;
     if is_finished(&rec[..], head.n) {
-        if outs.len() != 28 {
+        if outs.len() != OUTPUTS {
             return refusals::refused_at(24, 0);
         }
         destinations::publish_words(circuit, head.start, head.rows, rec, outs);
