@@ -1,7 +1,8 @@
 -- `scan::is_reading` meets its contract: the length, 24 bits, 8 values and e. Assumes nothing.
 use Prim.Native.Nat.{ℕ}
 use native.Mathlib.Nat.{zero-add}
-use mathlib.Core.Path.{_∙_, ap}
+use mathlib.Core.Path.{_≡_, _∙_, ap}
+use mathlib.Core.Bool.{Bool, _&&_}
 use lib.IntN.{pos}
 use borrow.Author.Tests.{eq-eqb, ne-eqb}
 use Rattle.words.proofs.Locals.{back}
@@ -12,6 +13,9 @@ use Rattle.calls.specs.Calls.{isReading}
 use borrow.Author.Needs.{needs}
 use Rattle.scan.proofs.is_reading.Statement.{statement}
 use Rattle.scan.proofs.is_reading.Tie as tie
+
+and-same : {a b c d : Bool} → a ≡ b → c ≡ d → a && c ≡ b && d
+and-same e f = rw (e, f)
 
 returns : tie.Need-returns
 unfolding isReading
@@ -37,7 +41,7 @@ unfolding isReading
 returns-2 c =
     let bits = c .before .before .before .before .run-fits .ensures ∙ every-same 24 _ (λ (i : ℕ). inRange (pos 0 to pos 1) (at (c .before .before .before .before .before .before .args .inputs .now) i)) (λ k h. ap (λ (i : ℕ). inRange (pos 0 to pos 1) (at (c .before .before .before .before .before .before .args .inputs .now) i)) (zero-add k)) in
     let time = rw (back (c .before .before .before .before .before .before .fits .e)) at (c .before .before .within .ensures) in
-    rw (eq-eqb _ 32 (c .before .before .before .before .before .if1 .left), ← bits, ← c .before .before .before .run-fits2 .ensures, ← time, ← c .before .both .ensures) (c .both2 .ensures)
+    rw (eq-eqb _ 32 (c .before .before .before .before .before .if1 .left)) (c .both2 .ensures ∙ and-same bits (c .before .both .ensures ∙ and-same (c .before .before .before .run-fits2 .ensures) time))
 
 pub is-reading-spec : {M : Type 1} → statement M
 is-reading-spec =
