@@ -1,3 +1,2 @@
-pub mod Effects
 pub mod Opening
 pub mod Answered

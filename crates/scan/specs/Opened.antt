@@ -1,19 +1,15 @@
 -- What the calls hand to each other. Not part of what a reader has to believe.
-use Prim.Native.Nat.{ℕ, zero, suc, _+_}
+use Prim.Native.Nat.{ℕ}
 use mathlib.Core.Path.{_≡_}
-use mathlib.Core.Bool.{Bool, true, false, cond}
+use mathlib.Core.Bool.{Bool, true, false}
 use mathlib.Core.List.{List}
-use lib.ListN.{getD}
-use lib.IntN.{ℤ, pos}
-use Rattle.rules.specs.Rules.{three}
+use lib.IntN.{ℤ}
 use Rattle.refusals.specs.Answers.{refusedAt}
-use Rattle.decoding.specs.Decoded.{Circuit, blockAt}
+use Rattle.decoding.specs.Decoded.{Circuit}
 use Rattle.decoding.specs.Held.{rowsAt}
 use Rattle.decoding.specs.declared.Head.{Head}
 use Rattle.circuit.specs.Circuit.{verdict, accepted}
 use Rattle.circuit.specs.declared.Outcome.{Outcome}
-use Rattle.lines.specs.Lines.{lineOf}
-use Rattle.record.specs.Places.{putWords}
 use Rattle.record.specs.Sound.{linesOf}
 use Rattle.record.specs.Written.{linesAt}
 use Rattle.steps.specs.Wired.{Runs}
@@ -47,13 +43,3 @@ pub record Opened (s : List ℕ) (l : List ℤ) (head : Head) (offsets : List �
 pub record Opens (s : List ℕ) (l : List ℤ) (r : Outcome) (offsets : List ℕ) : Type 0 where
   pub refuses : (r .number ≡ 0 → ⊥) → (x : Call) → asksSound x ≡ true → Refuses s x l (r .number) (r .place)
   pub accepts : r .number ≡ 0 → Opened s l (r .head) offsets
-
--- ---- warm start, block by block
-
--- the first m blocks, each kept where it is retentive, else zeroed
-unfoldable pub clearedUpTo : List ℕ → List ℕ → ℕ → List ℤ → List ℤ
-clearedUpTo s offsets zero l = l
-clearedUpTo s offsets (suc m) l =
-    cond (lineOf (blockAt s (getD offsets m 0)) .retentive)
-    (clearedUpTo s offsets m l)
-    (putWords (clearedUpTo s offsets m l) (m + 1) (three (pos 0) (pos 0) (pos 0)))

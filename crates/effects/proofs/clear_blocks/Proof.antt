@@ -1,12 +1,12 @@
--- `scan::clear_blocks` meets its contract: after d turns of the loop the first d blocks are gone through. Assumes nothing.
+-- `effects::clear_blocks` meets its contract: after d turns of the loop the first d blocks are gone through. Assumes nothing.
 use Prim.Native.Nat.{_-_, _≤_}
 use native.Mathlib.Omega.{arith}
 use native.Mathlib.Numerals.{add-one}
 use mathlib.Core.Path.{_≡_, refl, _∙_}
 use lib.ListN.{length}
-use Rattle.scan.specs.Opened.{clearedUpTo}
-use Rattle.scan.proofs.clear_blocks.Statement.{statement}
-use Rattle.scan.proofs.clear_blocks.Tie as tie
+use Rattle.effects.specs.Cleared.{clearedUpTo}
+use Rattle.effects.proofs.clear_blocks.Statement.{statement}
+use Rattle.effects.proofs.clear_blocks.Tie as tie
 
 abbrev Inv-loop : tie.InvT-loop
 Inv-loop kinds bytes offsets rec₀ n d₀ rec d = (d ≤ n) × (length rec ≡ length rec₀) × (rec ≡ clearedUpTo bytes offsets d rec₀)

@@ -24,7 +24,7 @@ use Rattle.record.proofs.Located.{Spot, is-phase, is-done, is-mark, is-elapsed,
 use Rattle.record.proofs.Runs.{put-all-length, put-all-away, put-all-in}
 use Rattle.record.proofs.Split.{line-there}
 use Rattle.calls.specs.Calls.{fresh, coldWord, warmWord, latchWord}
-use Rattle.scan.specs.Opened.{clearedUpTo}
+use Rattle.effects.specs.Cleared.{clearedUpTo}
 
 -- ---- the starts: all but the blocks is fresh
 

@@ -1,12 +1,12 @@
--- `scan::cold_words` meets its contract: all words zeroed, then mark and M8. Assumes nothing.
+-- `effects::cold_words` meets its contract: all words zeroed, then mark and M8. Assumes nothing.
 use mathlib.Core.Path.{_∙_, ap}
 use mathlib.Core.List.{List}
 use lib.IntN.{ℤ, pos}
 use Rattle.record.specs.Places.{mark, flag, put}
-use Rattle.scan.proofs.Effects.{cold-is}
+use Rattle.effects.proofs.Stored.{cold-is}
 use borrow.Author.Needs.{needs}
-use Rattle.scan.proofs.cold_words.Statement.{statement}
-use Rattle.scan.proofs.cold_words.Tie as tie
+use Rattle.effects.proofs.cold_words.Statement.{statement}
+use Rattle.effects.proofs.cold_words.Tie as tie
 
 clear-all-requires : tie.Need-clear-all-requires
 clear-all-requires c κs = search needs

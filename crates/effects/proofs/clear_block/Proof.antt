@@ -1,10 +1,10 @@
--- `scan::clear_block` meets its contract: a retentive block keeps its words. Assumes nothing.
+-- `effects::clear_block` meets its contract: a retentive block keeps its words. Assumes nothing.
 use Prim.Native.Nat.{_+_}
 use mathlib.Core.Path.{_∙_, ap}
 use Rattle.record.specs.Places.{putWords}
 use borrow.Author.Needs.{needs}
-use Rattle.scan.proofs.clear_block.Statement.{statement}
-use Rattle.scan.proofs.clear_block.Tie as tie
+use Rattle.effects.proofs.clear_block.Statement.{statement}
+use Rattle.effects.proofs.clear_block.Tie as tie
 
 line-at-requires : tie.Need-line-at-requires
 line-at-requires c κs = search needs

@@ -1,13 +1,13 @@
--- `scan::warm_words` meets its contract: the blocks that are not retentive, the words before them, mark and M8. Assumes nothing.
+-- `effects::warm_words` meets its contract: the blocks that are not retentive, the words before them, mark and M8. Assumes nothing.
 use mathlib.Core.Path.{_∙_, ap}
 use mathlib.Core.List.{List}
 use lib.IntN.{ℤ, pos}
 use Rattle.record.specs.Places.{mark, flag, phase, sizeOf, indexOf, put}
 use Rattle.record.specs.Written.{putAll, nothing}
-use Rattle.scan.proofs.Effects.{warm-is}
+use Rattle.effects.proofs.Stored.{warm-is}
 use borrow.Author.Needs.{needs}
-use Rattle.scan.proofs.warm_words.Statement.{statement}
-use Rattle.scan.proofs.warm_words.Tie as tie
+use Rattle.effects.proofs.warm_words.Statement.{statement}
+use Rattle.effects.proofs.warm_words.Tie as tie
 
 clear-blocks-requires : tie.Need-clear-blocks-requires
 clear-blocks-requires c κs = search needs

@@ -1,13 +1,13 @@
--- `scan::latch_words` meets its contract: the reading, e, the phase. Assumes nothing.
+-- `effects::latch_words` meets its contract: the reading, e, the phase. Assumes nothing.
 use mathlib.Core.Path.{_∙_, ap}
 use mathlib.Core.List.{List}
 use lib.IntN.{ℤ, pos}
 use Rattle.words.proofs.Locals.{back}
 use Rattle.record.specs.Places.{elapsed, phase, put}
-use Rattle.scan.proofs.Effects.{latch-is}
+use Rattle.effects.proofs.Stored.{latch-is}
 use borrow.Author.Needs.{needs}
-use Rattle.scan.proofs.latch_words.Statement.{statement}
-use Rattle.scan.proofs.latch_words.Tie as tie
+use Rattle.effects.proofs.latch_words.Statement.{statement}
+use Rattle.effects.proofs.latch_words.Tie as tie
 
 put-inputs-requires : tie.Need-put-inputs-requires
 put-inputs-requires c κs = search needs

@@ -1,11 +1,11 @@
--- `scan::begin` meets its contract: two stores. Assumes nothing.
+-- `effects::begin` meets its contract: two stores. Assumes nothing.
 use mathlib.Core.Path.{_∙_, ap}
 use mathlib.Core.List.{List}
 use lib.IntN.{ℤ, pos}
 use Rattle.record.specs.Places.{flag, put}
 use borrow.Author.Needs.{needs}
-use Rattle.scan.proofs.begin.Statement.{statement}
-use Rattle.scan.proofs.begin.Tie as tie
+use Rattle.effects.proofs.begin.Statement.{statement}
+use Rattle.effects.proofs.begin.Tie as tie
 
 put-mark-requires : tie.Need-put-mark-requires
 put-mark-requires c κs = search needs
