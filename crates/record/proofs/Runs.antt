@@ -67,6 +67,10 @@ one-fails (suc n) f i h e =
     (λ (g : i < n). rw (one-fails n f i g e))
     (eq-or-lt-of-le {n = i} {m = n} (omega arith))
 
+-- two tests that are each another
+pub and-same : {a b c d : Bool} → a ≡ b → c ≡ d → a && c ≡ b && d
+and-same e f = rw (e, f)
+
 and-assoc : (a b c : Bool) → (a && b) && c ≡ a && (b && c)
 and-assoc true b c = refl
 and-assoc false b c = refl

@@ -1,5 +1,7 @@
 -- `record::at_rest` meets its contract: both words are 0. Assumes nothing.
+use mathlib.Core.Path.{_∙_}
 use Rattle.record.specs.Places.{indexOf}
+use Rattle.record.proofs.Runs.{and-same}
 use borrow.Author.Needs.{needs}
 use Rattle.record.proofs.at_rest.Statement.{statement}
 use Rattle.record.proofs.at_rest.Tie as tie
@@ -15,7 +17,7 @@ both-requires c κs = search needs
 
 returns : tie.Need-returns
 unfolding indexOf
-returns c = rw (← c .before .before .word-fits .ensures, ← c .before .word-fits2 .ensures) (c .both .ensures)
+returns c = c .both .ensures ∙ and-same (c .before .before .word-fits .ensures) (c .before .word-fits2 .ensures)
 
 pub at-rest-spec : {M : Type 1} → statement M
 at-rest-spec = tie.close (tie.spec word-fits-requires word-fits-requires-2 both-requires returns)

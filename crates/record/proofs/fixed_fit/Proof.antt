@@ -1,6 +1,8 @@
 -- `record::fixed_fit` meets its contract: the runs stand one after the other. Assumes nothing.
+use mathlib.Core.Path.{_∙_}
 use Rattle.record.specs.Places.{indexOf}
 use Rattle.record.specs.Written.{fixedFit}
+use Rattle.record.proofs.Runs.{and-same}
 use borrow.Author.Needs.{needs}
 use Rattle.record.proofs.fixed_fit.Statement.{statement}
 use Rattle.record.proofs.fixed_fit.Tie as tie
@@ -34,7 +36,18 @@ both-requires-4 c κs = search needs
 
 returns : tie.Need-returns
 unfolding indexOf fixedFit
-returns c = rw (← c .before .before .before .before .before .before .before .before .head-fits .ensures, ← c .before .before .before .before .before .before .before .run-fits .ensures, ← c .before .before .before .before .before .before .run-fits2 .ensures, ← c .before .before .before .before .before .run-fits3 .ensures, ← c .before .before .before .before .run-fits4 .ensures, ← c .before .before .before .both .ensures, ← c .before .before .both2 .ensures, ← c .before .both3 .ensures) (c .both4 .ensures)
+returns c =
+    c .both4 .ensures
+    ∙ and-same
+    (c .before .both3 .ensures
+    ∙ and-same
+    (c .before .before .both2 .ensures
+    ∙ and-same
+    (c .before .before .before .both .ensures
+    ∙ and-same (c .before .before .before .before .before .before .before .before .head-fits .ensures) (c .before .before .before .before .before .before .before .run-fits .ensures))
+    (c .before .before .before .before .before .before .run-fits2 .ensures))
+    (c .before .before .before .before .before .run-fits3 .ensures))
+    (c .before .before .before .before .run-fits4 .ensures)
 
 pub fixed-fit-spec : {M : Type 1} → statement M
 fixed-fit-spec =

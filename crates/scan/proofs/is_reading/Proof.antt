@@ -1,21 +1,17 @@
 -- `scan::is_reading` meets its contract: the length, 24 bits, 8 values and e. Assumes nothing.
 use Prim.Native.Nat.{ℕ}
 use native.Mathlib.Nat.{zero-add}
-use mathlib.Core.Path.{_≡_, _∙_, ap}
-use mathlib.Core.Bool.{Bool, _&&_}
+use mathlib.Core.Path.{_∙_, ap}
 use lib.IntN.{pos}
 use borrow.Author.Tests.{eq-eqb, ne-eqb}
 use Rattle.words.proofs.Locals.{back}
 use Rattle.kinds.specs.Kinds.{inRange, _to_}
 use Rattle.record.specs.Places.{at}
-use Rattle.record.proofs.Runs.{every-same}
+use Rattle.record.proofs.Runs.{and-same, every-same}
 use Rattle.calls.specs.Calls.{isReading}
 use borrow.Author.Needs.{needs}
 use Rattle.scan.proofs.is_reading.Statement.{statement}
 use Rattle.scan.proofs.is_reading.Tie as tie
-
-and-same : {a b c d : Bool} → a ≡ b → c ≡ d → a && c ≡ b && d
-and-same e f = rw (e, f)
 
 returns : tie.Need-returns
 unfolding isReading

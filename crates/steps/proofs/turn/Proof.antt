@@ -1,6 +1,11 @@
 -- `steps::turn` meets its contract: as many steps as asked or as remain, then the blocks done. Assumes nothing.
 use Prim.Native.Nat.{_-_}
+use Prim.Native.Nat.{_+_}
 use native.Mathlib.Omega.{arith}
+use mathlib.Core.Path.{_∙_, ap}
+use mathlib.Core.List.{List}
+use lib.IntN.{ℤ, pos}
+use Rattle.record.specs.Places.{done, put}
 use Rattle.steps.specs.Steps.{turned}
 use Rattle.record.proofs.Split.{lines-length}
 use Rattle.steps.proofs.Running.{done-within}
@@ -40,7 +45,7 @@ returns c =
     let n = lines-length (c .before .before .before .before .before .before .before .before .before .before .args .bytes .now) (c .before .before .before .before .before .before .before .before .before .before .args .n) (c .before .before .before .before .before .before .before .before .before .before .args .offsets .now) (c .before .before .before .before .before .before .before .before .before .before .pre .1 .stand) in
     let d = c .before .before .before .before .before .before .before .done-of .ensures .0 in
     let m = rw (d, ← n) at (c .before .before .before .before .before .before .least .ensures) in
-    (m, rw (n, ← d), rw (← m, ← d, ← c .before .before .before .before .steps-from .ensures) (c .before .put-done .ensures))
+    (m, rw (n, ← d), rw (← m, ← d) (c .before .put-done .ensures ∙ ap (λ (l : List ℤ). put l done (pos (c .before .before .before .before .before .before .before .done-of .result + c .before .before .before .before .before .before .least .result))) (c .before .before .before .before .steps-from .ensures)))
 
 pub turn-spec : {M : Type 1} → statement M
 turn-spec =
