@@ -1,10 +1,12 @@
 -- `record::block_fits` meets its contract: a block's words stand one after the other, and their ranges go by its kind and its ticks. Assumes nothing.
+use mathlib.Core.Path.{_∙_}
 use Prim.Native.Nat.{_+_, _*_}
 use native.Mathlib.Nat.{add-zero}
 use Rattle.words.proofs.Locals.{back-to}
 use Rattle.lines.specs.Lines.{lineOf}
 use Rattle.record.specs.Places.{indexOf}
 use Rattle.record.specs.Written.{blockFits}
+use Rattle.record.proofs.Runs.{and-same}
 use borrow.Author.Needs.{needs}
 use Rattle.record.proofs.block_fits.Statement.{statement}
 use Rattle.record.proofs.block_fits.Tie as tie
@@ -57,7 +59,9 @@ returns c =
     let output = back-to _ (c .before .before .before .before .before .before .before .held-at .ok) (c .before .before .before .before .before .before .before .held-at .ensures) in
     let remembered = back-to _ (c .before .before .before .before .before .held-at2 .ok) (c .before .before .before .before .before .held-at2 .ensures) in
     let number = back-to _ (c .before .before .before .held-at3 .ok) (c .before .before .before .held-at3 .ensures) in
-    rw (add-zero (161 + 3 * c .before .before .before .before .before .before .before .before .before .before .before .args .k), ← c .before .before .before .before .before .before .before .before .time-at .ensures, ← c .before .before .before .before .before .before .before .before .before .kind-at .ensures .0, ← output, ← remembered, ← number, ← c .before .before .before .before .before .before .output-fits .ensures, ← c .before .before .before .before .remembered-fits .ensures, ← c .before .before .number-fits .ensures, ← c .before .both .ensures) (c .both2 .ensures)
+    rw (add-zero (161 + 3 * c .before .before .before .before .before .before .before .before .before .before .before .args .k), ← c .before .before .before .before .before .before .before .before .time-at .ensures, ← c .before .before .before .before .before .before .before .before .before .kind-at .ensures .0, ← output, ← remembered, ← number)
+    (c .both2 .ensures
+    ∙ and-same (c .before .before .before .before .before .before .output-fits .ensures) (c .before .both .ensures ∙ and-same (c .before .before .before .before .remembered-fits .ensures) (c .before .before .number-fits .ensures)))
 
 pub block-fits-spec : {M : Type 1} → statement M
 block-fits-spec =

@@ -2,9 +2,10 @@
 use Prim.Native.Nat.{_≤_, _-_}
 use native.Mathlib.Omega.{arith}
 use native.Mathlib.Numerals.{add-one}
-use mathlib.Core.Path.{_≡_, refl}
+use mathlib.Core.Path.{_≡_, refl, _∙_}
 use Rattle.record.specs.Sound.{every}
 use Rattle.record.specs.Written.{blocksFit}
+use Rattle.record.proofs.Runs.{and-same}
 use borrow.Author.Needs.{needs}
 use Rattle.record.proofs.blocks_fit.Statement.{statement}
 use Rattle.record.proofs.blocks_fit.Tie as tie
@@ -42,7 +43,7 @@ loop-less c = omega arith
 
 loop-again : tie.Need-loop-again Inv-loop μ-loop
 unfolding every
-loop-again c = (omega arith, rw (add-one, ← c .before .before .before .before .loop .inv .1, ← c .before .block-fits .ensures) (c .both .ensures))
+loop-again c = (omega arith, rw add-one (c .both .ensures ∙ and-same (c .before .before .before .before .loop .inv .1) (c .before .block-fits .ensures)))
 
 returns : tie.Need-returns Inv-loop μ-loop
 returns c =
