@@ -20,7 +20,7 @@ use Rattle.kept.proofs.Lists.{all-map}
 use Rattle.kept.proofs.Rules.{once}
 use Rattle.kept.proofs.Exactly.{accepted-exactly}
 use Rattle.destinations.specs.Destinations.{carried, destined}
-use Rattle.destinations.specs.Slots.{Aimed, at-q, at-m, at-aq, at-am, RowFine, Rows}
+use Rattle.destinations.specs.Slots.{Aimed, at-q, at-m, at-aq, at-am, AimedRow, Rows}
 
 -- ---- rows of other destinations
 
@@ -64,9 +64,9 @@ aimed-by limits (suc (suc (suc (suc zero)))) number m a b = let x = m .am in at-
 aimed-by limits (suc (suc (suc (suc (suc k))))) number m a b = let z : ⊥ = omega arith in absurd z
 
 -- of a circuit that keeps the rules, at limits that the code has room for
-pub rows-fine : (limits : Limits) (n : ℕ) (rows : List Row) → Modest limits → All (RowKeeps limits n) rows → All RowFine rows
+pub rows-fine : (limits : Limits) (n : ℕ) (rows : List Row) → Modest limits → All (RowKeeps limits n) rows → All AimedRow rows
 rows-fine limits n rows m h =
-    all-map (RowKeeps limits n) RowFine (λ row k. aimed-by limits (row .class) (row .number) m (k .low) (k .high)) rows h
+    all-map (RowKeeps limits n) AimedRow (λ row k. aimed-by limits (row .class) (row .number) m (k .low) (k .high)) rows h
 
 pub accepted-rows : (limits : Limits) (s : List ℕ) (head : Head) (offsets : List ℕ) → Modest limits → Bytes s → Accepts limits s head offsets
     → Rows s (head .start) (head .rows)
@@ -75,5 +75,5 @@ accepted-rows limits s head offsets m small a =
     let end = a .rows-end in
     record {
       there = omega arith;
-      fine = subst (All RowFine) (sym (a .rows-there)) (rows-fine limits (a .circuit .n) (a .circuit .rows) m (keeps .rows));
+      fine = subst (All AimedRow) (sym (a .rows-there)) (rows-fine limits (a .circuit .n) (a .circuit .rows) m (keeps .rows));
     }

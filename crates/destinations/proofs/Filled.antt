@@ -19,7 +19,7 @@ use Rattle.record.specs.Places.{at}
 use Rattle.record.specs.Written.{putAll}
 use Rattle.record.proofs.Runs.{put-all-length, put-all-in}
 use Rattle.destinations.specs.Destinations.{Q, M, AQ, AM, carried, destined, listFrom, outputsOf}
-use Rattle.destinations.specs.Slots.{base, slot, filled, Aimed, at-q, at-m, at-aq, at-am, RowFine, Rows}
+use Rattle.destinations.specs.Slots.{base, slot, filled, Aimed, at-q, at-m, at-aq, at-am, AimedRow, Rows}
 
 -- ---- slots
 
@@ -88,7 +88,7 @@ module _ (l : List ℤ) (class n : ℕ) (aim : Aimed class n) where
   filled-row b m v rest z false t e f long a h =
       rw e (getD-set-other rest (slot b m) (slot class n) v (pos 0) (λ g. eqb-false b class e (same-class b class m n a aim (sym g))) ∙ h)
 
-  pub filled-at : (rows : List Row) → All RowFine rows → at (filled rows l) (slot class n) ≡ destined rows l class n
+  pub filled-at : (rows : List Row) → All AimedRow rows → at (filled rows l) (slot class n) ≡ destined rows l class n
   unfolding filled destined
   filled-at [] h = getD-replicate 156 (slot class n) (pos 0) (pos 0) (slot-below class n aim)
   filled-at (row ∷ rows) h =
@@ -97,7 +97,7 @@ module _ (l : List ℤ) (class n : ℕ) (aim : Aimed class n) where
 
 -- ---- the rows of the bytes, the last one first
 
-fine-from : (s : List ℕ) (at count j : ℕ) → All RowFine (rowsAt s at count) → j < count → RowFine (rowAt s (at + 8 * j))
+fine-from : (s : List ℕ) (at count j : ℕ) → All AimedRow (rowsAt s at count) → j < count → AimedRow (rowAt s (at + 8 * j))
 unfolding rowsAt
 fine-from s at zero j h b = let z : ⊥ = omega arith in absurd z
 fine-from s at (suc count) zero h b = rw (add-zero at) (h .0)
@@ -106,7 +106,7 @@ fine-from s at (suc count) (suc j) h b =
     rw e at (fine-from s (at + 8) count j (h .1) (omega arith))
 
 -- row j, from 0
-pub row-fine : (s : List ℕ) (start count : ℕ) → Rows s start count → (j : ℕ) → j < count → RowFine (rowAt s (start + 8 * j))
+pub row-fine : (s : List ℕ) (start count : ℕ) → Rows s start count → (j : ℕ) → j < count → AimedRow (rowAt s (start + 8 * j))
 row-fine s start count rows j b = fine-from s start count j (rows .fine) b
 
 module _ (s : List ℕ) (start count : ℕ) (l : List ℤ) where
@@ -131,7 +131,7 @@ module _ (s : List ℕ) (start count : ℕ) (l : List ℤ) where
 
 -- ---- by index
 
-module _ (rows : List Row) (l : List ℤ) (fine : All RowFine rows) (k : ℕ) where
+module _ (rows : List Row) (l : List ℤ) (fine : All AimedRow rows) (k : ℕ) where
   slot-word : (class : ℕ) → Aimed class (1 + k) → at (filled rows l) (base class + k) ≡ destined rows l class (1 + k)
   slot-word class aim =
       let e : 1 + k - 1 ≡ k = omega arith in
@@ -180,7 +180,7 @@ list-at a (suc m) f (suc j) h =
     let e : a + 1 + j ≡ a + suc j = omega arith in
     rw (← e) (list-at (a + 1) m f j (omega arith))
 
-module _ (rows : List Row) (l : List ℤ) (fine : All RowFine rows) where
+module _ (rows : List Row) (l : List ℤ) (fine : All AimedRow rows) where
   first-20 : (i : ℕ) → i < 20 → at (outputsOf rows l) i ≡ at (filled rows l) i
   unfolding outputsOf
   first-20 i b =

@@ -17,7 +17,7 @@ use Rattle.record.specs.Written.{putAll, nothing}
 use Rattle.record.proofs.Located.{Spot, is-phase, is-done, is-mark, is-elapsed, is-input, is-analog, is-flag, is-analogFlag, is-block, is-change}
 use Rattle.record.proofs.Runs.{put-all-length, put-all-away, put-all-in}
 use Rattle.destinations.specs.Destinations.{M, AM, destined, publishWord}
-use Rattle.destinations.specs.Slots.{filled, RowFine}
+use Rattle.destinations.specs.Slots.{filled, AimedRow}
 use Rattle.destinations.proofs.Filled.{Part, filled-m, filled-am}
 
 -- M8 put to 0 where the mark is
@@ -53,7 +53,7 @@ head-away l i h = put-all-away l 0 4 nothing i (λ k b e. omega arith)
 
 -- ---- the whole
 
-module _ (rows : List Row) (l : List ℤ) (fine : All RowFine rows) (long : 164 ≤ length l) (from : List ℤ) (p : Part (filled rows l) 28 128 from) where
+module _ (rows : List Row) (l : List ℤ) (fine : All AimedRow rows) (long : 164 ≤ length l) (from : List ℤ) (p : Part (filled rows l) 28 128 from) where
   -- with its flags, and with M8 too
   abbrev l1 : List ℤ
   l1 = putAll l (indexOf (flag 1)) 128 (at from)

@@ -32,10 +32,10 @@ pub data Aimed (class number : ℕ) : Type 0 where
   at-aq : class ≡ AQ → 1 ≤ number → number ≤ 8 → Aimed class number
   at-am : class ≡ AM → 1 ≤ number → number ≤ 64 → Aimed class number
 
-abbrev pub RowFine : Row → Type 0
-RowFine row = Aimed (row .class) (row .number)
+abbrev pub AimedRow : Row → Type 0
+AimedRow row = Aimed (row .class) (row .number)
 
 -- rows that stand in the bytes one behind the other, each to a destination that there is
 pub record Rows (s : List ℕ) (start count : ℕ) : Type 0 where
   pub there : start + 8 * count ≤ length s
-  pub fine : All RowFine (rowsAt s start count)
+  pub fine : All AimedRow (rowsAt s start count)

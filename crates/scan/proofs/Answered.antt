@@ -24,23 +24,20 @@ use Rattle.record.proofs.Split.{lines-length}
 use Rattle.destinations.specs.Destinations.{outputsOf, publishWord}
 use Rattle.calls.specs.Calls.{coldStart, warmStart, latch, run, publish, Plan, planOf, coldWord, warmWord, latchWord, isReading, gives, leaves, shows, answerAfter, recordAfter, outputsAfter}
 use Rattle.scan.specs.Opened.{Refuses, Opened}
-use Rattle.scan.proofs.Opening.{told-number, answered, left-so, shown-so, twenty, cold-number, warm-number, latch-number, run-number, publish-number, plan-lines, stands}
+use Rattle.scan.proofs.Opening.{told-number, answered, left-so, shown-so, twenty, cold-number, warm-number, latch-number, run-number, publish-number, plan-length}
 
 -- ---- cold start
 
 module _ (s : List ℕ) (head : Head) (offsets : List ℕ) (a : Accepts ours s head offsets) (l : List ℤ) where
-  same-n : length (linesOf (a .circuit)) ≡ head .n
-  same-n = ap length (sym (plan-lines s head offsets a)) ∙ lines-length s (head .n) offsets (stands s head offsets a)
-
   pub cold-20 : (length l ≡ sizeOf (head .n) → ⊥) → Refuses s coldStart l 20 0
   cold-20 ne =
       told-number s (a .circuit) (a .is) coldStart l 20 (λ z. omega arith)
-      (twenty (planOf (a .circuit)) l coldStart (ap (λ (n : ℕ). eqb (length l) (sizeOf n)) same-n ∙ ne-eqb (length l) (sizeOf (head .n)) ne))
+      (twenty (planOf (a .circuit)) l coldStart (ap (λ (n : ℕ). eqb (length l) (sizeOf n)) (plan-length s head offsets a) ∙ ne-eqb (length l) (sizeOf (head .n)) ne))
 
   pub cold-done : length l ≡ sizeOf (head .n) → (answerAfter s coldStart l ≡ acceptedWith 0 0) × (recordAfter s coldStart l ≡ change coldWord l)
   unfolding gives leaves
   cold-done e =
-      let z = cold-number (planOf (a .circuit)) l (ap (λ (n : ℕ). eqb (length l) (sizeOf n)) same-n ∙ eq-eqb (length l) (sizeOf (head .n)) e) in
+      let z = cold-number (planOf (a .circuit)) l (ap (λ (n : ℕ). eqb (length l) (sizeOf n)) (plan-length s head offsets a) ∙ eq-eqb (length l) (sizeOf (head .n)) e) in
       (answered s (a .circuit) (a .is) coldStart l z, left-so s (a .circuit) (a .is) coldStart l z)
 
 -- ---- the other calls, on a sound record

@@ -11,6 +11,7 @@ use borrow.Author.Tests.{eqb-true}
 use Rattle.refusals.specs.Limited.{ours}
 use Rattle.refusals.specs.Faults.{_when_, lowest}
 use Rattle.refusals.specs.Answers.{refusedAt}
+use Rattle.refusals.specs.declared.Limits.{Limits}
 use Rattle.refusals.proofs.Laws.{ours-modest}
 use Rattle.decoding.specs.Decoded.{Block, Circuit, blockAt}
 use Rattle.decoding.specs.Held.{bare}
@@ -33,6 +34,10 @@ use Rattle.calls.proofs.Accepts.{answer-accepted, record-accepted, outputs-acce
 use Rattle.calls.proofs.Fine.{accepted-fine}
 use Rattle.calls.proofs.Theorems.{answer-after, record-after, outputs-after}
 use Rattle.scan.specs.Opened.{asksSound, Refuses, Opened, Opens}
+
+-- what `judge` says at ours
+pub at-ours : {limits : Limits} {s : List ℕ} {r : Outcome} {offsets : List ℕ} → limits ≡ ours → Says limits s r offsets → Says ours s r offsets
+at-ours {s = s} {r = r} {offsets = offsets} e says = subst (λ (limits : Limits). Says limits s r offsets) e says
 
 -- ---- the circuit is refused
 
@@ -124,20 +129,20 @@ module _ (s : List ℕ) (head : Head) (offsets : List ℕ) (a : Accepts ours s h
   pub stands : Stand s (head .n) offsets
   stands = record { few = a .few; long = a .long; lie = a .lie }
 
+  pub plan-length : length (linesOf (a .circuit)) ≡ head .n
+  plan-length = ap length (sym plan-lines) ∙ lines-length s (head .n) offsets stands
+
   -- the numbers 20 and 21
   pub record-told : (l : List ℤ) (x : Call) → asksSound x ≡ true → (k : ℕ) → (k ≡ 0 → ⊥)
       → k ≡ lowest (20 when not (eqb (length l) (sizeOf (head .n))) ∷ 21 when not (sound (linesAt s (head .n) offsets) l) ∷ []) → Refuses s x l k 0
   record-told l x asks k ne e =
       told-number s (a .circuit) (a .is) x l k ne (by (eqb (length l) (sizeOf (head .n))) (sound (linesAt s (head .n) offsets) l) refl refl)
     where
-      same : length (linesOf (a .circuit)) ≡ head .n
-      same = ap length (sym plan-lines) ∙ lines-length s (head .n) offsets stands
-
       by : (t u : Bool) → eqb (length l) (sizeOf (head .n)) ≡ t → sound (linesAt s (head .n) offsets) l ≡ u → refusal (planOf (a .circuit)) x l ≡ k
       by false u f g =
-          twenty (planOf (a .circuit)) l x (ap (λ (n : ℕ). eqb (length l) (sizeOf n)) same ∙ f) ∙ sym (e ∙ ap (λ (t : Bool). lowest (20 when not t ∷ 21 when not (sound (linesAt s (head .n) offsets) l) ∷ [])) f)
+          twenty (planOf (a .circuit)) l x (ap (λ (n : ℕ). eqb (length l) (sizeOf n)) plan-length ∙ f) ∙ sym (e ∙ ap (λ (t : Bool). lowest (20 when not t ∷ 21 when not (sound (linesAt s (head .n) offsets) l) ∷ [])) f)
       by true false f g =
-          twenty-one (planOf (a .circuit)) l x asks (ap (λ (n : ℕ). eqb (length l) (sizeOf n)) same ∙ f) (ap (λ (m : List Line). sound m l) (sym plan-lines) ∙ g)
+          twenty-one (planOf (a .circuit)) l x asks (ap (λ (n : ℕ). eqb (length l) (sizeOf n)) plan-length ∙ f) (ap (λ (m : List Line). sound m l) (sym plan-lines) ∙ g)
           ∙ sym (e ∙ rw (f, g))
       by true true f g = absurd (ne (e ∙ rw (f, g)))
 

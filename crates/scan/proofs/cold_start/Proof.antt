@@ -2,11 +2,9 @@
 use native.Mathlib.Omega.{arith}
 use mathlib.Core.Path.{refl, sym, _∙_, subst}
 use Rattle.refusals.specs.Limited.{Modest}
-use Rattle.refusals.specs.declared.Limits.{Limits}
 use Rattle.refusals.proofs.Laws.{ours-modest}
-use Rattle.circuit.specs.Judged.{Says}
 use Rattle.calls.specs.Calls.{coldStart}
-use Rattle.scan.proofs.Opening.{circuit-refused}
+use Rattle.scan.proofs.Opening.{at-ours, circuit-refused}
 use Rattle.scan.proofs.Answered.{cold-20, cold-done}
 use borrow.Author.Needs.{needs}
 use Rattle.scan.proofs.cold_start.Statement.{statement}
@@ -29,13 +27,13 @@ refused-at-requires c κs = search needs
 
 returns : tie.Need-returns
 returns c =
-    let says = subst (λ (limits : Limits). Says limits (c .before .before .before .before .before .before .before .before .before .before .args .circuit .now) (c .before .before .before .before .judge .result) (c .before .before .before .before .judge .last .1 .1 .1 .0)) (c .before .before .before .before .before .before .before .ours .ensures) (c .before .before .before .before .judge .ensures) in
+    let says = at-ours (c .before .before .before .before .before .before .before .ours .ensures) (c .before .before .before .before .judge .ensures) in
     let r = circuit-refused (c .before .before .before .before .before .before .before .before .before .before .args .circuit .now) (c .before .before .before .before .judge .result .number) (c .before .before .before .before .judge .result .place) (says .refuses (c .before .before .if1 .taken)) coldStart (c .before .before .before .before .before .before .before .before .before .before .args .rec .now) in
     (c .refused-at .ensures ∙ sym (r .answer), sym (r .words))
 
 size-of-requires : tie.Need-size-of-requires
 size-of-requires c κs =
-    let says = subst (λ (limits : Limits). Says limits (c .before .before .before .before .before .before .before .before .before .args .circuit .now) (c .before .before .before .judge .result) (c .before .before .before .judge .last .1 .1 .1 .0)) (c .before .before .before .before .before .before .ours .ensures) (c .before .before .before .judge .ensures) in
+    let says = at-ours (c .before .before .before .before .before .before .ours .ensures) (c .before .before .before .judge .ensures) in
     says .accepts (c .before .if1 .left) .few
 
 refused-at-requires-2 : tie.Need-refused-at-requires-2
@@ -43,13 +41,13 @@ refused-at-requires-2 c κs = search needs
 
 returns-2 : tie.Need-returns-2
 returns-2 c =
-    let says = subst (λ (limits : Limits). Says limits (c .before .before .before .before .before .before .before .before .before .before .before .before .args .circuit .now) (c .before .before .before .before .before .before .judge .result) (c .before .before .before .before .before .before .judge .last .1 .1 .1 .0)) (c .before .before .before .before .before .before .before .before .before .ours .ensures) (c .before .before .before .before .before .before .judge .ensures) in
+    let says = at-ours (c .before .before .before .before .before .before .before .before .before .ours .ensures) (c .before .before .before .before .before .before .judge .ensures) in
     let r = cold-20 (c .before .before .before .before .before .before .before .before .before .before .before .before .args .circuit .now) (c .before .before .before .before .before .before .judge .result .head) (c .before .before .before .before .before .before .judge .last .1 .1 .1 .0) (says .accepts (c .before .before .before .before .if1 .left)) (c .before .before .before .before .before .before .before .before .before .before .before .before .args .rec .now) (rw (c .before .before .size-of .ensures) at (c .before .if2 .taken)) in
     (c .refused-at2 .ensures ∙ sym (r .answer), sym (r .words))
 
 cold-words-requires : tie.Need-cold-words-requires
 cold-words-requires c κs =
-    let says = subst (λ (limits : Limits). Says limits (c .before .before .before .before .before .before .before .before .before .before .before .before .args .circuit .now) (c .before .before .before .before .before .before .judge .result) (c .before .before .before .before .before .before .judge .last .1 .1 .1 .0)) (c .before .before .before .before .before .before .before .before .before .ours .ensures) (c .before .before .before .before .before .before .judge .ensures) in
+    let says = at-ours (c .before .before .before .before .before .before .before .before .before .ours .ensures) (c .before .before .before .before .before .before .judge .ensures) in
     let few = says .accepts (c .before .before .before .before .if1 .left) .few in
     let long = rw (c .before .before .size-of .ensures) at (c .before .if2 .left) in
     (omega arith, omega arith)
@@ -62,7 +60,7 @@ same-length c = search needs
 
 returns-3 : tie.Need-returns-3
 returns-3 c =
-    let says = subst (λ (limits : Limits). Says limits (c .before .before .before .before .before .before .before .before .before .before .before .before .before .before .before .args .circuit .now) (c .before .before .before .before .before .before .before .before .before .judge .result) (c .before .before .before .before .before .before .before .before .before .judge .last .1 .1 .1 .0)) (c .before .before .before .before .before .before .before .before .before .before .before .before .ours .ensures) (c .before .before .before .before .before .before .before .before .before .judge .ensures) in
+    let says = at-ours (c .before .before .before .before .before .before .before .before .before .before .before .before .ours .ensures) (c .before .before .before .before .before .before .before .before .before .judge .ensures) in
     let r = cold-done (c .before .before .before .before .before .before .before .before .before .before .before .before .before .before .before .args .circuit .now) (c .before .before .before .before .before .before .before .before .before .judge .result .head) (c .before .before .before .before .before .before .before .before .before .judge .last .1 .1 .1 .0) (says .accepts (c .before .before .before .before .before .before .before .if1 .left)) (c .before .before .before .before .before .before .before .before .before .before .before .before .before .before .before .args .rec .now) (rw (c .before .before .before .before .before .size-of .ensures) at (c .before .before .before .before .if2 .left)) in
     (c .accepted-with .ensures ∙ sym (r .0), c .before .before .cold-words .ensures ∙ sym (r .1))
 

@@ -1,7 +1,5 @@
 -- `scan::opened` meets its contract: the verdict on the circuit, then on the record. Assumes nothing.
-use Rattle.refusals.specs.declared.Limits.{Limits}
-use Rattle.circuit.specs.Judged.{Says}
-use Rattle.scan.proofs.Opening.{circuit-judged, stands, record-judged}
+use Rattle.scan.proofs.Opening.{at-ours, circuit-judged, stands, record-judged}
 use mathlib.Core.Path.{sym, subst}
 use Rattle.refusals.specs.Limited.{Modest}
 use Rattle.refusals.proofs.Laws.{ours-modest}
@@ -19,17 +17,17 @@ returns : tie.Need-returns
 returns c =
     let s = c .before .before .before .before .before .before .args .circuit .now in
     let offsets = c .before .before .judge .last .1 .1 .1 .0 in
-    let says = subst (λ (limits : Limits). Says limits (c .before .before .before .before .before .before .args .circuit .now) (c .before .before .judge .result) (c .before .before .judge .last .1 .1 .1 .0)) (c .before .before .before .before .ours .ensures) (c .before .before .judge .ensures) in
+    let says = at-ours (c .before .before .before .before .ours .ensures) (c .before .before .judge .ensures) in
     circuit-judged s (c .before .before .before .before .before .before .args .rec .now) (c .before .before .judge .result) offsets says (c .if1 .taken)
 
 record-number-requires : tie.Need-record-number-requires
 record-number-requires c κs =
-    let says = subst (λ (limits : Limits). Says limits (c .before .before .before .before .before .before .before .before .args .circuit .now) (c .before .before .before .before .judge .result) (c .before .before .before .before .judge .last .1 .1 .1 .0)) (c .before .before .before .before .before .before .ours .ensures) (c .before .before .before .before .judge .ensures) in
+    let says = at-ours (c .before .before .before .before .before .before .ours .ensures) (c .before .before .before .before .judge .ensures) in
     (c .before .before .before .before .before .before .before .before .pre .0, stands (c .before .before .before .before .before .before .before .before .args .circuit .now) (c .before .before .before .before .judge .result .head) (c .before .before .before .before .judge .last .1 .1 .1 .0) (says .accepts (c .before .before .if1 .left)))
 
 returns-2 : tie.Need-returns-2
 returns-2 c =
-    let says = subst (λ (limits : Limits). Says limits (c .before .before .before .before .before .before .before .before .before .args .circuit .now) (c .before .before .before .before .before .judge .result) (c .before .before .before .before .before .judge .last .1 .1 .1 .0)) (c .before .before .before .before .before .before .before .ours .ensures) (c .before .before .before .before .before .judge .ensures) in
+    let says = at-ours (c .before .before .before .before .before .before .before .ours .ensures) (c .before .before .before .before .before .judge .ensures) in
     record-judged (c .before .before .before .before .before .before .before .before .before .args .circuit .now) (c .before .before .before .before .before .judge .result .head) (c .before .before .before .before .before .judge .last .1 .1 .1 .0) (says .accepts (c .before .before .before .if1 .left)) (c .before .before .before .before .before .before .before .before .before .args .rec .now) (λ i. c .before .before .before .before .before .before .before .before .shared-slice-known .given i .fits) (c .record-number .result) (c .record-number .ensures)
 
 pub opened-spec : {M : Type 1} → statement M
