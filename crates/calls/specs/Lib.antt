@@ -1,2 +1,5 @@
 pub mod Calls
 pub mod Fine
+pub mod Play
+pub mod InTurns
+pub mod Promises
