@@ -13,11 +13,13 @@ use Rattle.refusals.specs.Faults.{Fault, rises, lowest}
 use Rattle.refusals.specs.Answers.{refusedAt}
 use Rattle.refusals.proofs.Tests.{or-false, not-is, None, none-holds}
 use Rattle.refusals.proofs.Laws.{AtMost, least-of-rising}
+use Rattle.decoding.specs.Decoded.{Circuit}
+use Rattle.circuit.specs.Circuit.{verdict, accepted}
 use Rattle.record.specs.Places.{sizeOf}
 use Rattle.record.specs.Sound.{inScan, sound}
 use Rattle.record.proofs.Held.{Sound, told, tested}
 use Rattle.steps.specs.Steps.{toGo}
-use Rattle.calls.specs.Calls.{Call, coldStart, warmStart, latch, run, publish, Plan, wrongLength, notSound, isReading, faults, refusal, gives, leaves, shows, answerOn, recordOn, outputsOn}
+use Rattle.calls.specs.Calls.{Call, coldStart, warmStart, latch, run, publish, Plan, planOf, wrongLength, notSound, isReading, faults, refusal, gives, leaves, shows, answerOn, recordOn, outputsOn, answerAfter, recordAfter, outputsAfter}
 
 -- ---- the numbers
 
@@ -195,3 +197,21 @@ either-way {A} k zero-is other = go (eqb k 0) refl
 pub answer-number : (p : Plan) (x : Call) (l : List ℤ) → answerOn p x l .number ≡ refusal p x l
 answer-number p x l =
     either-way (refusal p x l) (λ e. rw (answer-accepted p x l e) (gives-zero p x l ∙ sym e)) (λ ne. rw (answer-refused p x l ne))
+
+-- ---- for the bytes of an accepted circuit
+
+module _ (s : List ℕ) (c : Circuit) (e : verdict s ≡ accepted c) where
+  pub answer-after : (x : Call) (l : List ℤ) → answerAfter s x l ≡ answerOn (planOf c) x l
+  unfolding answerAfter
+  answer-after x l = rw e
+
+  pub record-after : (x : Call) (l : List ℤ) → recordAfter s x l ≡ recordOn (planOf c) x l
+  unfolding recordAfter
+  record-after x l = rw e
+
+  pub outputs-after : (x : Call) (l o : List ℤ) → outputsAfter s x l o ≡ outputsOn (planOf c) x l o
+  unfolding outputsAfter
+  outputs-after x l o = rw e
+
+  pub number-after : (x : Call) (l : List ℤ) → answerAfter s x l .number ≡ refusal (planOf c) x l
+  number-after x l = rw (answer-after x l) (answer-number (planOf c) x l)

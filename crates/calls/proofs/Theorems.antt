@@ -21,7 +21,7 @@ use Rattle.record.proofs.Held.{Sound, told, tested}
 use Rattle.steps.specs.Steps.{toGo}
 use Rattle.calls.specs.Calls.{Call, coldStart, warmStart, latch, run, publish, Plan, planOf, refusal, leaves, shows, answerOn, recordOn, answerAfter, recordAfter, outputsAfter, outputsOn}
 use Rattle.calls.specs.Fine.{FinePlan}
-use Rattle.calls.proofs.Accepts.{cold-told, latch-told, run-told, run-right, publish-right, record-accepted, record-refused, answer-number, either-way}
+use Rattle.calls.proofs.Accepts.{cold-told, latch-told, run-told, run-right, publish-right, record-accepted, record-refused, either-way, record-after, number-after}
 use Rattle.calls.proofs.Fine.{accepted-fine}
 use Rattle.calls.proofs.Fits.{cold-sound, warm-sound, reading, latch-sound, publish-sound}
 use Rattle.calls.proofs.Turns.{turned-scan, turned-keeps, turned-all}
@@ -83,21 +83,6 @@ pub record SoundCalls (s : List ℕ) (lines : List Line) : Type 0 where
   pub closes : (l : List ℤ) → Good lines l → inScan l ≡ true
       → (answerAfter s (run (toGo lines l)) l .number ≡ 0) × (answerAfter s (publish 28) (recordAfter s (run (toGo lines l)) l) .number ≡ 0)
 
-module _ (s : List ℕ) (c : Circuit) (e : verdict s ≡ accepted c) where
-  pub answer-after : (x : Call) (l : List ℤ) → answerAfter s x l ≡ answerOn (planOf c) x l
-  unfolding answerAfter
-  answer-after x l = rw e
-
-  pub record-after : (x : Call) (l : List ℤ) → recordAfter s x l ≡ recordOn (planOf c) x l
-  unfolding recordAfter
-  record-after x l = rw e
-
-  pub outputs-after : (x : Call) (l o : List ℤ) → outputsAfter s x l o ≡ outputsOn (planOf c) x l o
-  unfolding outputsAfter
-  outputs-after x l o = rw e
-
-  number-after : (x : Call) (l : List ℤ) → answerAfter s x l .number ≡ refusal (planOf c) x l
-  number-after x l = rw (answer-after x l) (answer-number (planOf c) x l)
 
 pub sound-accepted : (s : List ℕ) → Bytes s → (c : Circuit) → verdict s ≡ accepted c → SoundCalls s (linesOf c)
 sound-accepted s small c e =

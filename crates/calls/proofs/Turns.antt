@@ -1,24 +1,24 @@
 -- Turns on a record: they keep it sound and its scan open, and one of the blocks to go leaves none. Assumes nothing.
 use Prim.Native.Nat.{ℕ, _+_, _-_, _≤_, _<_, min}
 use native.Mathlib.Omega.{arith}
-use native.Mathlib.Nat.{add-assoc}
+use native.Mathlib.Nat.{add-assoc, add-zero, zero-min}
 use mathlib.Core.Path.{_≡_, refl, ap, _∙_}
 use mathlib.Core.Bool.{Bool, true, false}
 use mathlib.Core.List.{List}
 use lib.Dec.{eqb}
 use lib.ListN.{length, length-set}
-use lib.Seq.{getD-set-same, getD-set-other, set-set}
-use lib.IntN.{ℤ, pos}
+use lib.Seq.{getD-set-same, getD-set-other, set-set, set-getD}
+use lib.IntN.{ℤ, pos, negsuc}
 use borrow.Author.Tests.{eqb-true, eqb-false}
-use Rattle.words.specs.Signed.{over}
-use Rattle.words.proofs.Bounds.{amount-between, count-between}
+use Rattle.words.specs.Signed.{over, Between}
+use Rattle.words.proofs.Bounds.{between-sides, amount-between, count-between}
 use Rattle.lines.specs.declared.Line.{Line}
-use Rattle.record.specs.Places.{done, sizeOf, indexOf, placeOf, put}
+use Rattle.record.specs.Places.{done, sizeOf, indexOf, placeOf, word, put}
 use Rattle.record.specs.Sound.{fitsAt, inScan}
 use Rattle.record.proofs.Held.{Sound, word-in}
 use Rattle.steps.specs.Steps.{stepsFrom, doneOf, toGo, turnOf, turned}
 use Rattle.steps.specs.Wired.{AllFine}
-use Rattle.steps.proofs.Keeps.{steps-length, steps-head, steps-keep, steps-add}
+use Rattle.steps.proofs.Keeps.{steps-length, steps-head, steps-keep, steps-zero, steps-add}
 use Rattle.steps.proofs.Reading.{steps-other}
 
 -- ---- blocks done
@@ -76,6 +76,31 @@ module _ (lines : List Line) (c : ℕ) (l : List ℤ) where
       let most = done-most lines l s in
       let within : d + k ≤ length lines = omega arith in
       put-done-keeps lines (stepsFrom lines d k l) (steps-keep lines fine d k l within s) (rw (steps-head lines d k l 0 (omega arith)) scan) (d + k) within
+
+pub turned-is : (lines : List Line) (c : ℕ) (l : List ℤ) → turned lines c l ≡ put (stepsFrom lines (doneOf l) (turnOf lines c l) l) done (pos (doneOf l + turnOf lines c l))
+unfolding turned
+turned-is lines c l = refl
+
+-- ---- a turn of none, and one of all
+
+-- a word that is not negative is a count
+word-count : {g : ℤ} (z : ℤ) → Between (pos 0) g z → pos (over z) ≡ z
+word-count (pos n) b = refl
+word-count (negsuc n) b = let s = between-sides b in let z : ⊥ = omega arith in absurd z
+
+-- "Run of 0 blocks in a scan: nothing changes"
+pub turned-none : (lines : List Line) (l : List ℤ) → Sound lines l → turned lines 0 l ≡ l
+unfolding turned
+turned-none lines l s =
+    rw (zero-min (toGo lines l), steps-zero lines (doneOf l) l, add-zero (doneOf l), word-count (word l done) (word-in lines l s done tt))
+    (set-getD l (indexOf done) (pos 0))
+
+-- beyond the blocks to go a turn works out no more
+pub turned-most : (lines : List Line) (m : ℕ) (l : List ℤ) → toGo lines l ≤ m → turned lines m l ≡ turned lines (toGo lines l) l
+unfolding turned
+turned-most lines m l h =
+    let e : turnOf lines m l ≡ turnOf lines (toGo lines l) l = omega arith in
+    ap (λ (k : ℕ). put (stepsFrom lines (doneOf l) k l) done (pos (doneOf l + k))) e
 
 -- a turn of the blocks to go leaves none
 pub turned-all : (lines : List Line) (l : List ℤ) → 1 < length l → toGo lines (turned lines (toGo lines l) l) ≡ 0

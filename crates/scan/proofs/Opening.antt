@@ -30,9 +30,8 @@ use Rattle.steps.specs.Wired.{AllFine}
 use Rattle.record.proofs.Split.{lines-length}
 use Rattle.destinations.proofs.Decided.{accepted-rows}
 use Rattle.calls.specs.Calls.{Call, coldStart, warmStart, latch, run, publish, Plan, planOf, isReading, faults, refusal, gives, leaves, shows, answerAfter, recordAfter, outputsAfter}
-use Rattle.calls.proofs.Accepts.{answer-accepted, record-accepted, outputs-accepted, answer-refused, record-refused, outputs-refused}
+use Rattle.calls.proofs.Accepts.{answer-accepted, record-accepted, outputs-accepted, answer-refused, record-refused, outputs-refused, answer-after, record-after, outputs-after}
 use Rattle.calls.proofs.Fine.{accepted-fine}
-use Rattle.calls.proofs.Theorems.{answer-after, record-after, outputs-after}
 use Rattle.scan.specs.Opened.{asksSound, Refuses, Opened, Opens}
 
 -- what `judge` says at ours

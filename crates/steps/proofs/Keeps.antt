@@ -267,6 +267,11 @@ module _ (lines : List Line) where
   unfolding stepsFrom along
   steps-zero d l = refl
 
+  -- a run of all is the whole order
+  pub steps-all : (l : List ℤ) → stepsFrom lines 0 (length lines) l ≡ along lines (order lines) l
+  unfolding stepsFrom order
+  steps-all l = ap (λ (ks : List ℕ). along lines ks l) (run-within 0 (length lines) (omega arith))
+
   -- a run of a + b is a run of a, then one of b
   pub steps-add : (d a b : ℕ) (l : List ℤ) → stepsFrom lines d (a + b) l ≡ stepsFrom lines (d + a) b (stepsFrom lines d a l)
   unfolding stepsFrom

@@ -32,7 +32,7 @@ module _ (l m : List ℤ) where
   first-source none ps h = (refl, h)
   first-source (some p) ps h = (h .0, h .1)
 
-  bit-same : (unused : Bool) (c : Connector) → valueFrom l c ≡ valueFrom m c → bitFrom l unused c ≡ bitFrom m unused c
+  pub bit-same : (unused : Bool) (c : Connector) → valueFrom l c ≡ valueFrom m c → bitFrom l unused c ≡ bitFrom m unused c
   unfolding bitFrom plainBit
   bit-same unused c e = rw e
 
@@ -87,6 +87,14 @@ sources-apart line =
     (source-apart (inputOf line 1) (orNone (o 2) (orNone (o 3) [])) (connects (inputOf line 1))
     (source-apart (inputOf line 2) (orNone (o 3) []) (connects (inputOf line 2))
     (source-apart (inputOf line 3) [] (connects (inputOf line 3)) tt)))
+
+-- so a connector reads the same
+pub value-other : (l : List ℤ) (z : ℤ) (c : Connector) → valueFrom (put l done z) c ≡ valueFrom l c
+value-other l z c = go (sourceOf c) (source-apart c [] (connects c) tt)
+  where
+    go : (o : Option Place) → All (Elsewhere done) (orNone o []) → readFrom (put l done z) o ≡ readFrom l o
+    go none h = refl
+    go (some q) h = getD-set-other l (indexOf done) (indexOf q) z (pos 0) (h .0)
 
 module _ (lines : List Line) (z : ℤ) where
   pub step-other : (k : ℕ) (l : List ℤ) → step lines k (put l done z) ≡ put (step lines k l) done z
