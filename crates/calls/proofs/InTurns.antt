@@ -19,7 +19,7 @@ use Rattle.decoding.specs.Decoded.{Circuit}
 use Rattle.lines.specs.declared.Line.{Line}
 use Rattle.record.specs.Places.{done, sizeOf, indexOf, placeOf, at, word, put, change}
 use Rattle.record.specs.Sound.{linesOf, inScan, isZero}
-use Rattle.record.proofs.Located.{change-at}
+use Rattle.record.proofs.Located.{Spot, is-phase, is-done, is-mark, is-elapsed, is-input, is-analog, is-flag, is-analogFlag, is-block, spot, change-at}
 use Rattle.record.proofs.Held.{Sound, told}
 use Rattle.steps.specs.Steps.{stepsFrom, doneOf, toGo, turnOf, turned}
 use Rattle.steps.proofs.Keeps.{steps-head, steps-all}
@@ -197,18 +197,34 @@ module _ (s : List ℕ) (c : Circuit) (r : List ℤ) (e : ℤ) (before : Moment)
       ∙ steps-head lines (doneOf latched) (turnOf lines q latched) latched i b
       ∙ low i b
 
+  -- M1 to AM64
+  flags-by : (q i : ℕ) → 36 ≤ i → i < 164 → at (turned lines q latched) i ≡ at l i
+  flags-by q i a b = fixed-by q i b (λ z. omega arith) ∙ same (spot i)
+    where
+      same : Spot i → latchWord r e (placeOf i) (at l i) ≡ at l i
+      same (is-phase z f) = let y : ⊥ = omega arith in absurd y
+      same (is-done z f) = let y : ⊥ = omega arith in absurd y
+      same (is-mark z f) = let y : ⊥ = omega arith in absurd y
+      same (is-elapsed z f) = let y : ⊥ = omega arith in absurd y
+      same (is-input x y f) = let z : ⊥ = omega arith in absurd z
+      same (is-analog x y f) = let z : ⊥ = omega arith in absurd z
+      same (is-flag x y f) = rw f
+      same (is-analogFlag x y f) = rw f
+      same (is-block x f) = rw f
+
   turn-by : (q m : ℕ)
       → let d = min q n in
       let go = n - d in
       (replyTo s (on (run m)) (turnedBy q) ≡ acceptedWith (min m go) (go - min m go))
       × (after s (on (run m)) (turnedBy q) ≡ moment (put (stepsFrom lines d (min m go) (turned lines q latched)) done (pos (d + min m go))) o)
   unfolding gives leaves shows
-  turn-by q m =
-      (reply-is s c (h .is) (run m) (turnedBy q) (run-accepts q m)
-      ∙ ap (λ (d : ℕ). acceptedWith (min m (n - d)) (n - d - min m (n - d))) (worked-by q),
-      after-is s c (h .is) (run m) (turnedBy q) (run-accepts q m)
-      ∙ ap (λ w. moment w o) (turned-is lines m (turned lines q latched)
-      ∙ ap (λ (d : ℕ). put (stepsFrom lines d (min m (n - d)) (turned lines q latched)) done (pos (d + min m (n - d)))) (worked-by q)))
+  turn-by q m = (
+    reply-is s c (h .is) (run m) (turnedBy q) (run-accepts q m)
+        ∙ ap (λ (d : ℕ). acceptedWith (min m (n - d)) (n - d - min m (n - d))) (worked-by q),
+    after-is s c (h .is) (run m) (turnedBy q) (run-accepts q m)
+        ∙ ap (λ w. moment w o) (turned-is lines m (turned lines q latched)
+        ∙ ap (λ (d : ℕ). put (stepsFrom lines d (min m (n - d)) (turned lines q latched)) done (pos (d + min m (n - d)))) (worked-by q)),
+  )
 
   -- ---- the end of the scan
 
@@ -263,12 +279,14 @@ module _ (s : List ℕ) (c : Circuit) (r : List ℤ) (e : ℤ) (before : Moment)
   -- ---- the whole
 
   in-turns : (xs : List AnyCall) → InTurns s c r e before xs (turnedBy (asked xs))
+  unfolding indexOf
   in-turns xs =
       let q = asked xs in
       record {
         stopped = sym (one-run q);
         worked = worked-by q;
         outputs = refl;
+        flags = flags-by q;
         fixed = fixed-by q;
         turn = turn-by q;
         others = λ x a f. stays x q a f;

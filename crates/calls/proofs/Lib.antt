@@ -5,4 +5,5 @@ pub mod Turns
 pub mod Play
 pub mod Closing
 pub mod InTurns
-pub mod Theorems
+pub mod OnPlan
+pub mod Promises

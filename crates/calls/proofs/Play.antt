@@ -11,7 +11,7 @@ use Rattle.calls.specs.Calls.{Call, planOf, refusal, gives, leaves, show
 use Rattle.calls.specs.Play.{on, Moment, moment, lends, made, replyTo, after}
 use Rattle.calls.proofs.Accepts.{answer-accepted, record-accepted, outputs-accepted, record-refused, outputs-refused, answer-after, record-after, outputs-after, number-after}
 
-same-moment : {l k o q : List ℤ} → l ≡ k → o ≡ q → moment l o ≡ moment k q
+pub same-moment : {l k o q : List ℤ} → l ≡ k → o ≡ q → moment l o ≡ moment k q
 same-moment e f = rw (e, f)
 
 module _ (s : List ℕ) (c : Circuit) (e : verdict s ≡ accepted c) (x : Call) (m : Moment) where

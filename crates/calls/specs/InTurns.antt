@@ -14,7 +14,7 @@ use Rattle.circuit.specs.Circuit.{verdict, accepted}
 use Rattle.kept.specs.Keeps.{Bytes}
 use Rattle.lines.specs.declared.Line.{Line}
 use Rattle.blocks.specs.Blocks.{ticks, workedOut}
-use Rattle.record.specs.Places.{done, sizeOf, placeOf, at, put, wordsOf, change}
+use Rattle.record.specs.Places.{done, flag, output, sizeOf, indexOf, placeOf, at, put, wordsOf, change}
 use Rattle.record.specs.Sound.{linesOf, lineAt, inScan, sound}
 use Rattle.steps.specs.Steps.{bitsOf, valuesOf, order, along, stepsFrom, doneOf}
 use Rattle.destinations.specs.Destinations.{outputsOf, publishWord}
@@ -88,7 +88,7 @@ scanned c r e l = along (linesOf c) (order (linesOf c)) (change (latchWord r e) 
 pub record ByTheRules (c : Circuit) (r : List ℤ) (e : ℤ) (l w : List ℤ) : Type 0 where
   pub long : length w ≡ length l
   -- every word that is no block's is as latched: "During a scan M and AM show their old values"
-  pub fixed : (i : ℕ) → i < 164 → at w i ≡ latchWord r e (placeOf i) (at l i)
+  pub fixed : (i : ℕ) → i < indexOf (output 1) → at w i ≡ latchWord r e (placeOf i) (at l i)
   -- a block's words are what its rule gives on its inputs in w, on its own words in l, and on e
   pub blocks : (k : ℕ) → 1 ≤ k → k ≤ length (linesOf c)
       → let line = lineAt (linesOf c) k in
@@ -107,9 +107,11 @@ pub record InTurns (s : List ℕ) (c : Circuit) (r : List ℤ) (e : ℤ) (before
   -- the one-go scan, stopped after as many blocks as the runs asked for, or as there are
   pub stopped : now ≡ play s (on (latch r e) ∷ on (run (asked xs)) ∷ []) before .last
   pub worked : doneOf (now .rec) ≡ min (asked xs) (length (linesOf c))
-  -- outputs untouched, every word but a block's and blocks done as latched
+  -- outputs and flags untouched
   pub outputs : now .outputs ≡ before .outputs
-  pub fixed : (i : ℕ) → i < 164 → (i ≡ 1 → ⊥) → at (now .rec) i ≡ latchWord r e (placeOf i) (at (before .rec) i)
+  pub flags : (i : ℕ) → indexOf (flag 1) ≤ i → i < indexOf (output 1) → at (now .rec) i ≡ at (before .rec) i
+  -- every word but a block's and blocks done is as latched
+  pub fixed : (i : ℕ) → i < indexOf (output 1) → (i ≡ indexOf done → ⊥) → at (now .rec) i ≡ latchWord r e (placeOf i) (at (before .rec) i)
   -- a run of m: accepted, works out just the next ones, as many as asked or as remain, and answers so
   pub turn : (m : ℕ)
       → let d = min (asked xs) (length (linesOf c)) in
