@@ -34,7 +34,7 @@ use Rattle.calls.proofs.Fine.{accepted-fine}
 use Rattle.calls.proofs.Fits.{reading, latch-sound}
 use Rattle.calls.proofs.Turns.{turned-is, turned-scan, turned-done, turned-keeps, turned-none, turned-most, turned-add}
 use Rattle.calls.proofs.Closing.{publish-other, outputs-other}
-use Rattle.calls.proofs.Play.{reply-number, reply-is, after-is, after-none}
+use Rattle.calls.proofs.Play.{same-moment, reply-number, reply-is, after-is, after-none}
 
 -- ---- any list of calls: those before the end of the scan, and those from it on
 
@@ -121,11 +121,17 @@ module _ (s : List ℕ) (c : Circuit) (r : List ℤ) (e : ℤ) (before : Moment)
   run-accepts : (m k : ℕ) → refusal p (run k) (turned lines m latched) ≡ 0
   run-accepts m k = run-right p (turned lines m latched) k (turned-sound m) (scans m)
 
+  -- it works out the next blocks, and shows nothing
+  run-turns : (m k : ℕ) → leaves p (run k) (turned lines m latched) ≡ turned lines (m + k) latched
+  unfolding leaves
+  run-turns m k = turned-add lines m k latched is-long
+
+  run-shows : (m k : ℕ) → shows p (run k) (turned lines m latched) [] ++ o ≡ o
+  unfolding shows
+  run-shows m k = refl
+
   run-moves : (m k : ℕ) → after s (on (run k)) (turnedBy m) ≡ turnedBy (m + k)
-  unfolding leaves shows
-  run-moves m k =
-      after-is s c (h .is) (run k) (turnedBy m) (run-accepts m k)
-      ∙ ap (λ w. moment w o) (turned-add lines m k latched is-long)
+  run-moves m k = after-is s c (h .is) (run k) (turnedBy m) (run-accepts m k) ∙ same-moment (run-turns m k) (run-shows m k)
 
   -- a call that a record in a scan refuses
   refused-in-scan : (x : Call) (m : ℕ) → (refusal p (made x o) (turned lines m latched) ≡ 0 → inScan (turned lines m latched) ≡ false) → after s (on x) (turnedBy m) ≡ turnedBy m
