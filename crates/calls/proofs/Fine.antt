@@ -7,7 +7,7 @@ use mathlib.Core.Bool.{Bool, true, false}
 use mathlib.Core.List.{List, [], _∷_, map}
 use mathlib.Core.Option.{none}
 use lib.Dec.{ltb}
-use lib.ListN.{length, getD, length-map}
+use lib.ListN.{length, getD, take, length-map, length-take}
 use borrow.Author.Tests.{ltb-true, ltb-false}
 use Rattle.kinds.specs.Kinds.{kindOf}
 use Rattle.refusals.specs.Limited.{ours}
@@ -15,14 +15,16 @@ use Rattle.refusals.proofs.Laws.{ours-modest}
 use Rattle.connectors.specs.Connectors.{Connector, least, greatest}
 use Rattle.decoding.specs.Decoded.{Block, Row, Circuit}
 use Rattle.circuit.specs.Circuit.{verdict, accepted}
-use Rattle.kept.specs.Keeps.{Bytes, Keeps, Allowed, RowKeeps}
+use Rattle.kept.specs.Keeps.{All, Bytes, Keeps, Allowed, RowKeeps}
 use Rattle.kept.proofs.Lists.{all-both}
 use Rattle.kept.proofs.Exactly.{accepted-exactly}
-use Rattle.lines.specs.Lines.{unused, nth, lineOf, Ready}
+use Rattle.lines.specs.Lines.{unused, nth, lineOf, Source, Ready}
+use Rattle.lines.specs.declared.Line.{Line}
 use Rattle.lines.proofs.Ready.{accepted-ready}
 use Rattle.record.specs.Sound.{linesOf, noLine, lineAt}
-use Rattle.steps.specs.Steps.{inputOf}
+use Rattle.steps.specs.Steps.{inputOf, sources}
 use Rattle.steps.specs.Wired.{Wired, Fine}
+use Rattle.steps.proofs.Ordered.{Before, ReadsEarlier, Names, sources-before}
 use Rattle.destinations.specs.Slots.{Aimed}
 use Rattle.destinations.proofs.Decided.{rows-fine}
 use Rattle.calls.specs.Calls.{planOf}
@@ -65,8 +67,10 @@ input-is b (suc (suc (suc zero))) h = refl
 input-is b (suc (suc (suc (suc j)))) h = let z : ⊥ = omega arith in absurd z
 
 module _ (n : ℕ) (before : List Block) (b : Block) (r : Ready ours n before b) where
-  connector-wired : (j : ℕ) → Wired (nth (b .inputs) j)
-  connector-wired j = go (ltb j d) (ltb j (d + a)) refl refl
+  -- of each connector what holds of every source, and of an unused one
+  each-connector : (P : Connector → Type 0) → ((place : ℕ) (c : Connector) → Source ours place n before c → P c) → P unused
+      → (j : ℕ) → P (nth (b .inputs) j)
+  each-connector P source without j = go (ltb j d) (ltb j (d + a)) refl refl
     where
       d : ℕ
       d = kindOf (b .kind) .digitals
@@ -74,10 +78,13 @@ module _ (n : ℕ) (before : List Block) (b : Block) (r : Ready ours n before b)
       a : ℕ
       a = kindOf (b .kind) .analogs
 
-      go : (x y : Bool) → ltb j d ≡ x → ltb j (d + a) ≡ y → Wired (nth (b .inputs) j)
-      go true y e f = allowed-wired _ n _ (r .digital j (ltb-true j d e) .allowed)
-      go false true e f = allowed-wired _ n _ (r .analog j (ltb-false j d e) (ltb-true j (d + a) f) .allowed)
-      go false false e f = rw (r .none j (ltb-false j (d + a) f)) unused-wired
+      go : (x y : Bool) → ltb j d ≡ x → ltb j (d + a) ≡ y → P (nth (b .inputs) j)
+      go true y e f = source _ _ (r .digital j (ltb-true j d e))
+      go false true e f = source _ _ (r .analog j (ltb-false j d e) (ltb-true j (d + a) f))
+      go false false e f = rw (r .none j (ltb-false j (d + a) f)) without
+
+  connector-wired : (j : ℕ) → Wired (nth (b .inputs) j)
+  connector-wired = each-connector Wired (λ place c x. allowed-wired place n c (x .allowed)) unused-wired
 
   ready-fine : Fine (lineOf b)
   unfolding lineOf
@@ -87,6 +94,16 @@ module _ (n : ℕ) (before : List Block) (b : Block) (r : Ready ours n before b)
         fit = r .fit;
         wired = λ j h. rw (input-is b j h) (connector-wired j);
       }
+
+  module _ (k : ℕ) (later : length before < k) where
+    connector-names : (j : ℕ) → Names k (nth (b .inputs) j)
+    connector-names =
+        each-connector (Names k)
+        (λ place c x. record { earlier = λ e. omega (arith, x .refers .there e, later) })
+        (record { earlier = λ e. omega (arith, later) })
+
+    ready-reads : All (Before k) (sources (lineOf b))
+    ready-reads = sources-before k (omega arith) (lineOf b) (ready-fine .wired) (λ j h. rw (input-is b j h) (connector-names j))
 
 line-at : (blocks : List Block) (d : Block) (j : ℕ) → j < length blocks → getD (map lineOf blocks) j noLine ≡ lineOf (getD blocks j d)
 line-at [] d j h = let z : ⊥ = omega arith in absurd z
@@ -112,13 +129,25 @@ module _ (s : List ℕ) (small : Bytes s) (c : Circuit) (e : verdict s ≡ accep
   unfolding linesOf
   lines-length = length-map (c .blocks) lineOf ∙ sym (keeps .count)
 
-  line-fine : (k : ℕ) → 1 ≤ k → k ≤ length (linesOf c) → Fine (lineAt (linesOf c) k)
+  -- of each line what holds of that of a ready block
+  each-line : (P : ℕ → Line → Type 0)
+      → ((j : ℕ) (before : List Block) (b : Block) → length before ≤ j → Ready ours (c .n) before b → P (suc j) (lineOf b))
+      → (k : ℕ) → 1 ≤ k → k ≤ length (linesOf c) → P k (lineAt (linesOf c) k)
   unfolding linesOf
-  line-fine zero low high = let z : ⊥ = omega arith in absurd z
-  line-fine (suc j) low high =
+  each-line P ready zero low high = let z : ⊥ = omega arith in absurd z
+  each-line P ready (suc j) low high =
       let inside : j < c .n = omega (arith, lines-length) in
       let there : j < length (c .blocks) = omega (arith, keeps .count) in
-      rw (line-at (c .blocks) some-block j there) (ready-fine (c .n) _ _ (accepted-ready ours s small c e some-block j inside))
+      let few : length (take j (c .blocks)) ≤ j = simp length-take (omega arith) in
+      rw (line-at (c .blocks) some-block j there) (ready j _ _ few (accepted-ready ours s small c e some-block j inside))
+
+  line-fine : (k : ℕ) → 1 ≤ k → k ≤ length (linesOf c) → Fine (lineAt (linesOf c) k)
+  line-fine = each-line (λ k line. Fine line) (λ j before b few r. ready-fine (c .n) before b r)
+
+  -- "A block may name only an earlier block"
+  pub reads-earlier : ReadsEarlier (linesOf c)
+  reads-earlier =
+      each-line (λ k line. All (Before k) (sources line)) (λ j before b few r. ready-reads (c .n) before b r (suc j) (omega arith))
 
   pub accepted-fine : FinePlan (planOf c)
   accepted-fine =

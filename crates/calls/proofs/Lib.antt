@@ -5,5 +5,6 @@ pub mod Turns
 pub mod Play
 pub mod Closing
 pub mod InTurns
+pub mod ByRules
 pub mod OnPlan
 pub mod Promises

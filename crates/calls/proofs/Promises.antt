@@ -26,6 +26,7 @@ use Rattle.calls.proofs.Accepts as on-plan
 use Rattle.calls.proofs.Fine.{accepted-fine}
 use Rattle.calls.proofs.Play.{same-moment, reply-number, reply-is, after-is, after-none}
 use Rattle.calls.proofs.InTurns.{scan-in-turns}
+use Rattle.calls.proofs.ByRules.{by-the-rules, rules-decide}
 use Rattle.calls.proofs.OnPlan.{after-sound, started-sound, run-ends, publish-ends}
 
 -- ---- every call answers
@@ -124,3 +125,18 @@ can-be-closed s small c e m g scan enough =
           ∙ ap (λ (k : ℕ). refusal p (publish k) (leaves p x (m .rec))) (length-take-le 28 (m .outputs) enough)
           ∙ publish-ends p fine (m .rec) h scan,
     )
+
+-- ---- all of them
+
+pub promises : Promises
+promises =
+    record {
+      every-call-answers = every-call-answers;
+      accepted-exactly = accepted-exactly ours;
+      by-the-rules = by-the-rules;
+      rules-decide = rules-decide;
+      scan-in-turns = scan-in-turns;
+      stays-sound = stays-sound;
+      cold-start-sound = cold-start-sound;
+      can-be-closed = can-be-closed;
+    }

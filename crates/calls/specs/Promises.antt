@@ -43,6 +43,12 @@ abbrev pub ByItsRule : Type 0
 ByItsRule =
     (s : List ℕ) (c : Circuit) (r : List ℤ) (e : ℤ) (l : List ℤ) → CanLatch s c r e l → ByTheRules c r e l (scanned c r e l)
 
+-- and these leave one outcome only
+abbrev pub RulesDecide : Type 0
+RulesDecide =
+    (s : List ℕ) (c : Circuit) (r : List ℤ) (e : ℤ) (l : List ℤ) → CanLatch s c r e l
+    → (w v : List ℤ) → ByTheRules c r e l w → ByTheRules c r e l v → w ≡ v
+
 -- ---- demand 3: a scan in turns is the scan in one go
 
 abbrev pub ScanInTurns : Type 0
@@ -78,6 +84,7 @@ pub record Promises : Type 0 where
   pub every-call-answers : EveryCallAnswers
   pub accepted-exactly : AcceptedExactly
   pub by-the-rules : ByItsRule
+  pub rules-decide : RulesDecide
   pub scan-in-turns : ScanInTurns
   pub stays-sound : StaysSound
   pub cold-start-sound : ColdStartSound

@@ -14,7 +14,8 @@ use borrow.Author.Tests.{ltb-true, ltb-false, eqb-true, eqb-false}
 use Rattle.words.specs.Signed.{over, Between}
 use Rattle.words.proofs.Bounds.{between-sides, sides-between}
 use Rattle.kinds.specs.Kinds.{Sort, digital, analog, In, sixteen, sortRange, kindOf}
-use Rattle.connectors.specs.Connectors.{Connector, classOf}
+use Rattle.connectors.specs.Connectors.{Connector, classOf, names}
+use Rattle.kept.specs.Keeps.{All}
 use Rattle.blocks.specs.Blocks.{Sixteen, ticks}
 use Rattle.blocks.specs.Blocks as blocks
 use Rattle.blocks.proofs.Stays.{stays-sound}
@@ -36,21 +37,21 @@ pub data Connects (c : Connector) : Type 0 where
   to-flag : classOf c ≡ 4 → sourceOf c ≡ some (flag (c .number)) → Connects c
   to-analog : classOf c ≡ 7 → sourceOf c ≡ some (places.analog (c .number)) → Connects c
   to-analogFlag : classOf c ≡ 8 → sourceOf c ≡ some (analogFlag (c .number)) → Connects c
-  to-block : sourceOf c ≡ some (output (c .number)) → Connects c
+  to-block : names (classOf c) ≡ true → sourceOf c ≡ some (output (c .number)) → Connects c
 
 module _ (c : Connector) where
   by-class : (k : ℕ) → classOf c ≡ k → Connects c
-  unfolding sourceOf
+  unfolding sourceOf names
   by-class zero e = to-nothing (rw e)
   by-class (suc zero) e = to-input e (reads-input c e)
   by-class (suc (suc zero)) e = to-nothing (rw e)
   by-class (suc (suc (suc zero))) e = to-nothing (rw e)
   by-class (suc (suc (suc (suc zero)))) e = to-flag e (reads-flag c e)
   by-class (suc (suc (suc (suc (suc zero))))) e = to-nothing (rw e)
-  by-class (suc (suc (suc (suc (suc (suc zero)))))) e = to-block (reads-block c e)
+  by-class (suc (suc (suc (suc (suc (suc zero)))))) e = to-block (rw e) (reads-block c e)
   by-class (suc (suc (suc (suc (suc (suc (suc zero))))))) e = to-analog e (reads-analog c e)
   by-class (suc (suc (suc (suc (suc (suc (suc (suc zero)))))))) e = to-analogFlag e (reads-analogFlag c e)
-  by-class (suc (suc (suc (suc (suc (suc (suc (suc (suc zero))))))))) e = to-block (reads-analog-block c e)
+  by-class (suc (suc (suc (suc (suc (suc (suc (suc (suc zero))))))))) e = to-block (rw e) (reads-analog-block c e)
   by-class (suc (suc (suc (suc (suc (suc (suc (suc (suc (suc k)))))))))) e = to-nothing (rw e)
 
   pub connects : Connects c
@@ -95,7 +96,7 @@ module _ (lines : List Line) (l : List ℤ) (s : Sound lines l) where
   value-by c w (to-flag k e) = rw e (at-sixteen (35 + c .number) (omega arith) (λ h. omega (arith, w .flag k)))
   value-by c w (to-analog k e) = rw e (at-sixteen (27 + c .number) (omega arith) (λ h. omega (arith, w .analog k)))
   value-by c w (to-analogFlag k e) = rw e (at-sixteen (99 + c .number) (omega arith) (λ h. omega (arith, w .analogFlag k)))
-  value-by c w (to-block e) = rw e (at-sixteen (161 + 3 * c .number + 0) (omega arith) (λ h. omega arith))
+  value-by c w (to-block k e) = rw e (at-sixteen (161 + 3 * c .number + 0) (omega arith) (λ h. omega arith))
 
   -- whatever a connector reads
   pub value-sixteen : (c : Connector) → Wired c → In sixteen (valueFrom l c)
@@ -112,13 +113,17 @@ module _ (lines : List Line) (l : List ℤ) (s : Sound lines l) where
 
 -- ---- a step
 
+-- the word at an index is none of block k's
+abbrev pub Away : ℕ → ℕ → Type 0
+Away i k = (j : ℕ) → j < 3 → i ≡ indexOf (block k j) → ⊥
+
 module _ (lines : List Line) (k : ℕ) (l : List ℤ) where
   pub step-length : length (step lines k l) ≡ length l
   unfolding step
   step-length = put-words-length l k (becomes l k (lineAt lines k))
 
   -- every other word stays
-  pub step-away : (i : ℕ) → ((j : ℕ) → j < 3 → i ≡ indexOf (block k j) → ⊥) → at (step lines k l) i ≡ at l i
+  pub step-away : (i : ℕ) → Away i k → at (step lines k l) i ≡ at l i
   unfolding step
   step-away i a = put-words-away l k (becomes l k (lineAt lines k)) i a
 
@@ -178,7 +183,7 @@ module _ (lines : List Line) (l : List ℤ) (s : Sound lines l) (k : ℕ) (low :
       fits-at 2 (omega arith) i (eqb-true i (indexOf (number k)) r) (rw (step-number lines k l in-record) (becomes-sound .number-is))
   fits-after i h false false false p q r = rw (step-away lines k l i away) (s .words i h)
     where
-      away : (j : ℕ) → j < 3 → i ≡ indexOf (block k j) → ⊥
+      away : Away i k
       away zero b e = eqb-false i (indexOf (output k)) p e
       away (suc zero) b e = eqb-false i (indexOf (remembered k)) q e
       away (suc (suc zero)) b e = eqb-false i (indexOf (number k)) r e
@@ -202,37 +207,47 @@ step-keeps lines k l fine s low high = stepped-sound lines l s k low high (fine 
 -- ---- steps one after the other
 
 -- as many of them
-as-many : (a m n : ℕ) → m ≡ n → countFrom a m ≡ countFrom a n
+pub as-many : (a m n : ℕ) → m ≡ n → countFrom a m ≡ countFrom a n
 as-many a m n e = ap (countFrom a) e
 
-take-count : (m a n : ℕ) → take m (countFrom a n) ≡ countFrom a (min m n)
+pub take-count : (m a n : ℕ) → take m (countFrom a n) ≡ countFrom a (min m n)
 take-count zero a n = as-many a 0 (min 0 n) (omega arith)
 take-count (suc m) a zero = as-many a 0 (min (suc m) 0) (omega arith)
 take-count (suc m) a (suc n) = ap (λ l. a ∷ l) (take-count m (suc a) n) ∙ as-many a (suc (min m n)) (min (suc m) (suc n)) (omega arith)
 
-drop-count : (d a n b : ℕ) → a + d ≡ b → drop d (countFrom a n) ≡ countFrom b (n - d)
+pub drop-count : (d a n b : ℕ) → a + d ≡ b → drop d (countFrom a n) ≡ countFrom b (n - d)
 drop-count zero a n b e =
     let f : a ≡ b = omega arith in
     rw f (as-many b n (n - 0) (omega arith))
 drop-count (suc d) a zero b e = as-many b 0 (0 - suc d) (omega arith)
 drop-count (suc d) a (suc n) b e = drop-count d (suc a) n b (omega arith) ∙ as-many b (n - d) (suc n - suc d) (omega arith)
 
+-- what holds of each of a, a + 1, ..
+pub all-count : (P : ℕ → Type 0) (m a : ℕ) → ((k : ℕ) → a ≤ k → k < a + m → P k) → All P (countFrom a m)
+all-count P zero a h = tt
+all-count P (suc m) a h = (h a (omega arith) (omega arith), all-count P m (suc a) (λ k f g. h k (omega arith) (omega arith)))
+
 module _ (lines : List Line) where
-  along-append : (ks js : List ℕ) (l : List ℤ) → along lines (ks ++ js) l ≡ along lines js (along lines ks l)
+  pub along-append : (ks js : List ℕ) (l : List ℤ) → along lines (ks ++ js) l ≡ along lines js (along lines ks l)
   unfolding along
   along-append [] js l = refl
   along-append (k ∷ ks) js l = along-append ks js (step lines k l)
 
-  along-length : (ks : List ℕ) (l : List ℤ) → length (along lines ks l) ≡ length l
+  pub along-length : (ks : List ℕ) (l : List ℤ) → length (along lines ks l) ≡ length l
   unfolding along
   along-length [] l = refl
   along-length (k ∷ ks) l = along-length ks (step lines k l) ∙ step-length lines k l
 
-  -- blocks a, a + 1, ..
-  count-head : (m a : ℕ) (l : List ℤ) → 1 ≤ a → (i : ℕ) → i < 164 → at (along lines (countFrom a m) l) i ≡ at l i
+  -- a word that is none of theirs stays
+  pub along-away : (ks : List ℕ) (l : List ℤ) (i : ℕ) → All (Away i) ks → at (along lines ks l) i ≡ at l i
   unfolding along
-  count-head zero a l low i h = refl
-  count-head (suc m) a l low i h = count-head m (suc a) (step lines a l) (omega arith) i h ∙ step-head lines a l low i h
+  along-away [] l i a = refl
+  along-away (k ∷ ks) l i a = along-away ks (step lines k l) i (a .1) ∙ step-away lines k l i (a .0)
+
+  -- blocks a, a + 1, ..
+  pub count-head : (m a : ℕ) (l : List ℤ) → 1 ≤ a → (i : ℕ) → i < 164 → at (along lines (countFrom a m) l) i ≡ at l i
+  unfolding indexOf
+  count-head m a l low i h = along-away (countFrom a m) l i (all-count (Away i) m a (λ k f g j b e. omega arith))
 
   count-keep : AllFine lines → (m a : ℕ) (l : List ℤ) → 1 ≤ a → a + m ≤ suc (length lines) → Sound lines l → Sound lines (along lines (countFrom a m) l)
   unfolding along

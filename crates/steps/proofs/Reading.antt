@@ -20,11 +20,25 @@ use Rattle.record.specs.Sound.{lineAt}
 use Rattle.steps.specs.Steps.{sourceOf, inputOf, orNone, sources, readBy, readFrom, valueFrom, plainBit, bitFrom, bitsOf, valuesOf, becomes, step, order, along, stepsFrom}
 use Rattle.steps.proofs.Keeps.{Connects, to-nothing, to-input, to-flag, to-analog, to-analogFlag, to-block, connects}
 
+-- ---- what a line reads, connector by connector
+
+or-none : (P : Place → Type 0) (o : Option Place) (ps : List Place) → All P (orNone o []) → All P ps → All P (orNone o ps)
+or-none P none ps h all = all
+or-none P (some p) ps h all = (h .0, all)
+
+pub each-source : (P : Place → Type 0) (line : Line) → ((j : ℕ) → j < 4 → All P (orNone (sourceOf (inputOf line j)) []))
+    → All P (sources line)
+each-source P line h =
+    let o : ℕ → Option Place = λ j. sourceOf (inputOf line j) in
+    or-none P (o 0) (orNone (o 1) (orNone (o 2) (orNone (o 3) []))) (h 0 (omega arith))
+    (or-none P (o 1) (orNone (o 2) (orNone (o 3) [])) (h 1 (omega arith))
+    (or-none P (o 2) (orNone (o 3) []) (h 2 (omega arith)) (h 3 (omega arith))))
+
 -- ---- two records that agree on what is read
 
 module _ (l m : List ℤ) where
   -- they agree there
-  abbrev Agree : Place → Type 0
+  abbrev pub Agree : Place → Type 0
   Agree p = word l p ≡ word m p
 
   -- on the first source of a list, and on the others
@@ -32,20 +46,40 @@ module _ (l m : List ℤ) where
   first-source none ps h = (refl, h)
   first-source (some p) ps h = (h .0, h .1)
 
+  -- a connector that reads the same gives the same bit
   pub bit-same : (unused : Bool) (c : Connector) → valueFrom l c ≡ valueFrom m c → bitFrom l unused c ≡ bitFrom m unused c
   unfolding bitFrom plainBit
   bit-same unused c e = rw e
 
-  pub becomes-same : (k : ℕ) (line : Line) → All Agree (readBy k line) → becomes l k line ≡ becomes m k line
-  unfolding becomes bitsOf valuesOf
-  becomes-same k line h =
+  -- connector j of a line reads the same
+  abbrev Same : Line → ℕ → Type 0
+  Same line j = valueFrom l (inputOf line j) ≡ valueFrom m (inputOf line j)
+
+  inputs-same : (line : Line) → All Agree (sources line) → Same line 0 × Same line 1 × Same line 2 × Same line 3
+  inputs-same line h =
       let o : ℕ → Option Place = λ j. sourceOf (inputOf line j) in
-      let u = kindOf (line .kind) .unused in
-      let s0 = first-source (o 0) (orNone (o 1) (orNone (o 2) (orNone (o 3) []))) (h .1 .1 .1 .1) in
+      let s0 = first-source (o 0) (orNone (o 1) (orNone (o 2) (orNone (o 3) []))) h in
       let s1 = first-source (o 1) (orNone (o 2) (orNone (o 3) [])) (s0 .1) in
       let s2 = first-source (o 2) (orNone (o 3) []) (s1 .1) in
       let s3 = first-source (o 3) [] (s2 .1) in
-      rw (bit-same u (inputOf line 0) (s0 .0), bit-same u (inputOf line 1) (s1 .0), bit-same u (inputOf line 2) (s2 .0), bit-same u (inputOf line 3) (s3 .0), s0 .0, s1 .0, h .0, h .1 .0, h .1 .1 .0, h .1 .1 .1 .0)
+      (s0 .0, s1 .0, s2 .0, s3 .0)
+
+  pub bits-same : (line : Line) → All Agree (sources line) → bitsOf l line ≡ bitsOf m line
+  unfolding bitsOf
+  bits-same line h =
+      let v = inputs-same line h in
+      let u = kindOf (line .kind) .unused in
+      rw (bit-same u (inputOf line 0) (v .0), bit-same u (inputOf line 1) (v .1), bit-same u (inputOf line 2) (v .2), bit-same u (inputOf line 3) (v .3))
+
+  pub values-same : (line : Line) → All Agree (sources line) → valuesOf l line ≡ valuesOf m line
+  unfolding valuesOf
+  values-same line h = let v = inputs-same line h in rw (v .0, v .1)
+
+  pub becomes-same : (k : ℕ) (line : Line) → All Agree (readBy k line) → becomes l k line ≡ becomes m k line
+  unfolding becomes
+  becomes-same k line h =
+      let read = h .1 .1 .1 .1 in
+      rw (bits-same line read, values-same line read, h .0, h .1 .0, h .1 .1 .0, h .1 .1 .1 .0)
 
 -- ---- a word that a step neither reads nor writes
 
@@ -71,26 +105,21 @@ step-apart lines q k l z own e read =
 
 -- ---- blocks done is such a word
 
-source-apart : (c : Connector) (ps : List Place) → Connects c → All (Elsewhere done) ps → All (Elsewhere done) (orNone (sourceOf c) ps)
+source-apart : (c : Connector) → Connects c → All (Elsewhere done) (orNone (sourceOf c) [])
 unfolding indexOf
-source-apart c ps (to-nothing e) h = rw e h
-source-apart c ps (to-input k e) h = rw e (λ b. omega arith, h)
-source-apart c ps (to-flag k e) h = rw e (λ b. omega arith, h)
-source-apart c ps (to-analog k e) h = rw e (λ b. omega arith, h)
-source-apart c ps (to-analogFlag k e) h = rw e (λ b. omega arith, h)
-source-apart c ps (to-block e) h = rw e (λ b. omega arith, h)
+source-apart c (to-nothing e) = rw e tt
+source-apart c (to-input k e) = rw e (λ b. omega arith, tt)
+source-apart c (to-flag k e) = rw e (λ b. omega arith, tt)
+source-apart c (to-analog k e) = rw e (λ b. omega arith, tt)
+source-apart c (to-analogFlag k e) = rw e (λ b. omega arith, tt)
+source-apart c (to-block k e) = rw e (λ b. omega arith, tt)
 
 sources-apart : (line : Line) → All (Elsewhere done) (sources line)
-sources-apart line =
-    let o : ℕ → Option Place = λ j. sourceOf (inputOf line j) in
-    source-apart (inputOf line 0) (orNone (o 1) (orNone (o 2) (orNone (o 3) []))) (connects (inputOf line 0))
-    (source-apart (inputOf line 1) (orNone (o 2) (orNone (o 3) [])) (connects (inputOf line 1))
-    (source-apart (inputOf line 2) (orNone (o 3) []) (connects (inputOf line 2))
-    (source-apart (inputOf line 3) [] (connects (inputOf line 3)) tt)))
+sources-apart line = each-source (Elsewhere done) line (λ j h. source-apart (inputOf line j) (connects (inputOf line j)))
 
 -- so a connector reads the same
 pub value-other : (l : List ℤ) (z : ℤ) (c : Connector) → valueFrom (put l done z) c ≡ valueFrom l c
-value-other l z c = go (sourceOf c) (source-apart c [] (connects c) tt)
+value-other l z c = go (sourceOf c) (source-apart c (connects c))
   where
     go : (o : Option Place) → All (Elsewhere done) (orNone o []) → readFrom (put l done z) o ≡ readFrom l o
     go none h = refl
