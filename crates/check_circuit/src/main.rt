@@ -2,5 +2,5 @@
 use libc::STDIN_FILENO;
 
 fn main() {
-    report::judged(STDIN_FILENO);
+    report::judged_from(STDIN_FILENO);
 }

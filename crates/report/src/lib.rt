@@ -1,4 +1,4 @@
-// What the programs print: the four numbers of check's answer on one line, or that the circuit is too long.
+// What the programs read and print: a circuit, the four numbers of an answer on one line, words.
 use libc::STDOUT_FILENO;
 use refusals::Answer;
 
@@ -7,35 +7,52 @@ const MOST: usize = 65536;
 
 const ROOM: usize = 65537;
 
+// Bytes as they are.
+pub fn text(bytes: &[u8]) {
+    io::write_all(STDOUT_FILENO, bytes);
+}
+
 // A number.
-fn number(n: usize) {
+pub fn number(n: usize) {
     io::print_decimal(STDOUT_FILENO, n as u64);
 }
 
-// The space between two numbers.
-fn space() {
-    io::write_all(STDOUT_FILENO, b" ");
+// A signed word.
+pub fn word(x: i32) {
+    if x < 0 {
+        text(b"-");
+        io::print_decimal(STDOUT_FILENO, 4294967296 - words::bits_of(x) as u64);
+        return;
+    }
+    io::print_decimal(STDOUT_FILENO, words::bits_of(x) as u64);
 }
 
 // The four numbers of an answer on one line.
-fn line(a: Answer) {
+pub fn line(a: Answer) {
     number(a.number);
-    space();
+    text(b" ");
     number(a.place);
-    space();
+    text(b" ");
     number(a.first);
-    space();
+    text(b" ");
     number(a.second);
-    io::write_all(STDOUT_FILENO, b"\n");
+    text(b"\n");
+}
+
+// Judges a circuit and prints the answer, or that it is too long: number 1 then, which no accepted circuit has.
+pub fn judged(bytes: &[u8]) -> Answer {
+    if MOST < bytes.len() {
+        text(b"too long\n");
+        return refusals::refused_at(1, 0);
+    }
+    let answer = circuit::check(bytes);
+    line(answer);
+    answer
 }
 
 // Reads a circuit to its end and prints the answer to it.
-pub fn judged(fd: i32) {
+pub fn judged_from(fd: i32) {
     let mut bytes = [0u8; ROOM];
     let n = io::read_full(fd, &mut bytes);
-    if MOST < n {
-        io::write_all(STDOUT_FILENO, b"too long\n");
-        return;
-    }
-    line(circuit::check(&bytes[..n]));
+    judged(&bytes[..n]);
 }
