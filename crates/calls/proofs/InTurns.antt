@@ -27,7 +27,7 @@ use Rattle.destinations.specs.Destinations.{outputsOf, publishWord}
 use Rattle.calls.specs.Calls.{Call, coldStart, warmStart, latch, run, publish, Plan, planOf, latchWord, refusal, gives, leaves, shows}
 use Rattle.calls.specs.Fine.{FinePlan}
 use Rattle.calls.specs.Play.{AnyCall, check, on, Moment, moment, made, replyTo, after, play}
-use Rattle.calls.specs.InTurns.{CanLatch, ends, during, behind, EndsFirst, isRun, asks, asked, scanned, Closed, InTurns, Course}
+use Rattle.calls.specs.InTurns.{CanLatch, ends, during, behind, EndsFirst, asks, asked, scanned, Closed, InTurns, Course}
 use Rattle.calls.specs.Promises.{ScanInTurns}
 use Rattle.calls.proofs.Accepts.{warm-told, latch-told, latch-right, run-right, publish-told, publish-right}
 use Rattle.calls.proofs.Fine.{accepted-fine}
@@ -143,22 +143,14 @@ module _ (s : List ℕ) (c : Circuit) (r : List ℤ) (e : ℤ) (before : Moment)
       after-none s c (h .is) x (turnedBy m)
       (λ z. eqb-false (replyTo s (on x) (turnedBy m) .number) 0 f (reply-number s c (h .is) x (turnedBy m) ∙ z))
 
-  stays : (x : AnyCall) (m : ℕ) → isRun x ≡ false → ends s x (turnedBy m) ≡ false → after s x (turnedBy m) ≡ turnedBy m
-  stays check m a f = refl
-  stays (on coldStart) m a f = refused-by-number coldStart m f
-  stays (on warmStart) m a f = refused-in-scan warmStart m (λ z. warm-told p (turned lines m latched) z .1)
-  stays (on (latch i t)) m a f = refused-in-scan (latch i t) m (λ z. latch-told p (turned lines m latched) i t z .1)
-  stays (on (run k)) m a f = absurd (true≢false a)
-  stays (on (publish k)) m a f = refused-by-number (publish k) m f
-
   -- what a call does that does not end the scan
   moves : (x : AnyCall) (m : ℕ) → ends s x (turnedBy m) ≡ false → after s x (turnedBy m) ≡ turnedBy (m + asks x)
   moves check m f = ap turnedBy (sym (add-zero m))
-  moves (on coldStart) m f = stays (on coldStart) m refl f ∙ ap turnedBy (sym (add-zero m))
-  moves (on warmStart) m f = stays (on warmStart) m refl f ∙ ap turnedBy (sym (add-zero m))
-  moves (on (latch i t)) m f = stays (on (latch i t)) m refl f ∙ ap turnedBy (sym (add-zero m))
+  moves (on coldStart) m f = refused-by-number coldStart m f ∙ ap turnedBy (sym (add-zero m))
+  moves (on warmStart) m f = refused-in-scan warmStart m (λ z. warm-told p (turned lines m latched) z .1) ∙ ap turnedBy (sym (add-zero m))
+  moves (on (latch i t)) m f = refused-in-scan (latch i t) m (λ z. latch-told p (turned lines m latched) i t z .1) ∙ ap turnedBy (sym (add-zero m))
   moves (on (run k)) m f = run-moves m k
-  moves (on (publish k)) m f = stays (on (publish k)) m refl f ∙ ap turnedBy (sym (add-zero m))
+  moves (on (publish k)) m f = refused-by-number (publish k) m f ∙ ap turnedBy (sym (add-zero m))
 
   -- ---- calls one after the other
 
@@ -282,6 +274,10 @@ module _ (s : List ℕ) (c : Circuit) (r : List ℤ) (e : ℤ) (before : Moment)
         outputs = ap (λ m. m .outputs) shown ∙ ap (λ t. outputsOf (c .rows) t ++ drop k o) same ∙ ap (λ u. u ++ drop k o) (outputs-other w (pos n) (c .rows));
       }
 
+  -- as latch and one run of everything leave it
+  pub one-go-words : play s (on (latch r e) ∷ on (run n) ∷ []) before .last .rec ≡ put w done (pos n)
+  one-go-words = ap (λ m. m .rec) (one-run n) ∙ turned-whole n (omega arith)
+
   -- ---- the whole
 
   in-turns : (xs : List AnyCall) → InTurns s c r e before xs (turnedBy (asked xs))
@@ -295,7 +291,7 @@ module _ (s : List ℕ) (c : Circuit) (r : List ℤ) (e : ℤ) (before : Moment)
         flags = flags-by q;
         fixed = fixed-by q;
         turn = turn-by q;
-        others = λ x a f. stays x q a f;
+        others = λ x a f. moves x q f ∙ rw (a, add-zero q);
         closes = closes-by q;
         closed = closed-by q;
       }

@@ -34,11 +34,6 @@ module _ (p : Plan) (fine : FinePlan p) where
       (λ e. rw (record-accepted p x l e) (leaves-sound x l e s))
       (λ ne. rw (record-refused p x l ne) s)
 
--- whatever stood in the record
-pub started-sound : (p : Plan) (l : List ℤ) → refusal p coldStart l ≡ 0 → Sound (p .lines) (recordOn p coldStart l)
-unfolding leaves
-started-sound p l e = rw (record-accepted p coldStart l e) (cold-sound (p .lines) l (cold-told p l e))
-
 -- ---- a scan can be ended
 
 module _ (p : Plan) (fine : FinePlan p) (l : List ℤ) (s : Sound (p .lines) l) (scan : inScan l ≡ true) where

@@ -1,5 +1,6 @@
 -- The promises, proved: over the definitions that the contracts of the calls cite. Assumes nothing.
-use Prim.Native.Nat.{ℕ, _≤_}
+use Prim.Native.Nat.{ℕ, _≤_, _<_}
+use native.Mathlib.Omega.{arith}
 use mathlib.Core.Path.{_≡_, refl, sym, ap, _∙_}
 use mathlib.Core.Logic.{_⊎_, inl, inr}
 use mathlib.Core.Bool.{true}
@@ -12,22 +13,27 @@ use Rattle.refusals.specs.Answers.{refusedAt, acceptedWith}
 use Rattle.decoding.specs.Decoded.{Circuit}
 use Rattle.circuit.specs.Circuit.{Verdict, verdict, refused, accepted, answerTo, answerAt}
 use Rattle.circuit.proofs.Listed.{refusal-listed}
-use Rattle.kept.proofs.Exactly.{accepted-exactly}
+use Rattle.kept.proofs.Exactly.{accepted-exactly, kept-accepted}
 use Rattle.lines.specs.declared.Line.{Line}
+use Rattle.record.specs.Places.{indexOf, placeOf, change}
 use Rattle.record.specs.Sound.{linesOf, inScan}
+use Rattle.record.proofs.Located.{change-at}
 use Rattle.record.proofs.Held.{Sound, told, tested}
 use Rattle.steps.specs.Steps.{toGo}
-use Rattle.calls.specs.Calls.{Call, coldStart, warmStart, latch, run, publish, Plan, planOf, refusal, gives, leaves, shows, recordOn, answerAfter, recordAfter, outputsAfter}
+use Rattle.destinations.specs.Destinations.{publishWord}
+use Rattle.calls.specs.Calls.{Call, coldStart, warmStart, latch, run, publish, Plan, planOf, coldWord, refusal, gives, leaves, shows, recordOn, answerAfter, recordAfter, outputsAfter}
 use Rattle.calls.specs.Play.{AnyCall, check, on, Moment, moment, lends, made, replyTo, after}
 use Rattle.calls.specs.InTurns.{Good}
-use Rattle.calls.specs.Promises.{Listed, of-circuit, of-call, Answered, accepts, refuses, EveryCallAnswers, StaysSound, ColdStartSound, CanBeClosed, Promises}
-use Rattle.calls.proofs.Accepts.{OnRecord, answer-refused, answer-after, record-after, number-after, either-way}
+use Rattle.calls.specs.Promises.{Listed, of-circuit, of-record, Answered, accepts, refuses, EveryCallAnswers, CheckTells, StaysSound, ColdStartSound, CanBeClosed, Promises}
+use Rattle.calls.proofs.Accepts.{OnRecord, cold-right, answer-refused, answer-after, record-after, number-after, either-way}
 use Rattle.calls.proofs.Accepts as on-plan
 use Rattle.calls.proofs.Fine.{accepted-fine}
+use Rattle.calls.proofs.Fits.{cold-sound}
+use Rattle.calls.proofs.Turns.{turned-length}
 use Rattle.calls.proofs.Play.{same-moment, reply-number, reply-is, after-is, after-none}
 use Rattle.calls.proofs.InTurns.{scan-in-turns}
-use Rattle.calls.proofs.ByRules.{by-the-rules, rules-decide}
-use Rattle.calls.proofs.OnPlan.{after-sound, started-sound, run-ends, publish-ends}
+use Rattle.calls.proofs.ByRules.{by-its-rule, rules-decide}
+use Rattle.calls.proofs.OnPlan.{after-sound, run-ends, publish-ends}
 
 -- ---- every call answers
 
@@ -41,8 +47,8 @@ gives-accepted p (publish k) l = refl
 
 -- a circuit that is refused
 module _ (s : List ℕ) (number place : ℕ) (e : verdict s ≡ refused number place) where
-  listed : Listed s number place
-  listed = let r = refusal-listed ours s number place e in of-circuit (r .some) (r .most) (r .within)
+  listed : (x : AnyCall) → Listed s x number place
+  listed x = let r = refusal-listed ours s number place e in of-circuit (r .some) (r .most) (r .within)
 
   record-kept : (x : Call) (l : List ℤ) → recordAfter s x l ≡ l
   unfolding recordAfter
@@ -60,14 +66,14 @@ module _ (s : List ℕ) (number place : ℕ) (e : verdict s ≡ refused number p
 
   refused-answers : (x : AnyCall) (m : Moment) → Answered s x m
   unfolding answerAt answerTo answerAfter
-  refused-answers check m = refuses number place (rw e) listed refl
-  refused-answers (on x) m = refuses number place (rw e) listed (nothing-changes x m)
+  refused-answers check m = refuses number place (rw e) (listed check) refl
+  refused-answers (on x) m = refuses number place (rw e) (listed (on x)) (nothing-changes x m)
 
 -- a circuit that is accepted
 module _ (s : List ℕ) (c : Circuit) (e : verdict s ≡ accepted c) where
-  of-list : (k : ℕ) → (k ≡ 0 → ⊥) → (k ≡ 0) ⊎ OnRecord k → Listed s k 0
-  of-list k ne (inl z) = absurd (ne z)
-  of-list k ne (inr b) = of-call (b .0) (b .1) refl
+  of-list : (x : Call) (k : ℕ) → (k ≡ 0 → ⊥) → (k ≡ 0) ⊎ OnRecord k → Listed s (on x) k 0
+  of-list x k ne (inl z) = absurd (ne z)
+  of-list x k ne (inr b) = of-record x refl (b .0) (b .1) refl
 
   call-answers : (x : Call) (m : Moment) → Answered s (on x) m
   call-answers x m =
@@ -77,7 +83,7 @@ module _ (s : List ℕ) (c : Circuit) (e : verdict s ≡ accepted c) where
       (λ z. accepts (gives p y (m .rec) .first) (gives p y (m .rec) .second) (reply-is s c e x m z ∙ gives-accepted p y (m .rec)))
       (λ ne.
       refuses (refusal p y (m .rec)) 0 (answer-after s c e y (m .rec) ∙ answer-refused p y (m .rec) ne)
-      (of-list (refusal p y (m .rec)) ne (on-plan.refusal-listed p y (m .rec)))
+      (of-list x (refusal p y (m .rec)) ne (on-plan.refusal-listed p y (m .rec)))
       (after-none s c e x m ne))
 
   accepted-answers : (x : AnyCall) (m : Moment) → Answered s x m
@@ -106,25 +112,40 @@ stays-sound s small c e (on x) m g =
     (good (linesOf c) (recordOn p y (m .rec)) (after-sound p (accepted-fine s small c e) y (m .rec) (told (linesOf c) (m .rec) (g .0) (g .1))))
 
 pub cold-start-sound : ColdStartSound
-cold-start-sound s c e m z =
-    rw (record-after s c e coldStart (m .rec))
-    (good (linesOf c) (recordOn (planOf c) coldStart (m .rec)) (started-sound (planOf c) (m .rec) (sym (reply-number s c e coldStart m) ∙ z)))
+unfolding gives leaves indexOf placeOf
+cold-start-sound s c e m long =
+    let p = planOf c in
+    let right = cold-right p (m .rec) long in
+    let now : after s (on coldStart) m .rec ≡ change coldWord (m .rec) = ap (λ u. u .rec) (after-is s c e coldStart m right) in (
+      reply-is s c e coldStart m right,
+      rw now (good (linesOf c) (change coldWord (m .rec)) (cold-sound (linesOf c) (m .rec) long)),
+      rw (now, change-at coldWord (m .rec) 0 (rw long (omega arith))),
+    )
 
 pub can-be-closed : CanBeClosed
-unfolding shows
+unfolding shows leaves indexOf placeOf
 can-be-closed s small c e m g scan enough =
     let p = planOf c in
     let fine = accepted-fine s small c e in
     let h = told (linesOf c) (m .rec) (g .0) (g .1) in
     let x = run (toGo (linesOf c) (m .rec)) in
+    let t = leaves p x (m .rec) in
     let ends = run-ends p fine (m .rec) h scan in
-    let now : after s (on x) m ≡ moment (leaves p x (m .rec)) (m .outputs) = after-is s c e x m ends in (
+    let now : after s (on x) m ≡ moment t (m .outputs) = after-is s c e x m ends in
+    let closes : refusal p (made (publish 28) (m .outputs)) t ≡ 0 =
+    ap (λ (k : ℕ). refusal p (publish k) t) (length-take-le 28 (m .outputs) enough) ∙ publish-ends p fine (m .rec) h scan in
+    let there : 0 < length t = rw (turned-length (linesOf c) (toGo (linesOf c) (m .rec)) (m .rec), g .0) (omega arith) in
+    let closed = after-is s c e (publish 28) (moment t (m .outputs)) closes in (
       reply-number s c e x m ∙ ends,
-      ap (λ u. replyTo s (on (publish 28)) u .number) now
-          ∙ reply-number s c e (publish 28) (moment (leaves p x (m .rec)) (m .outputs))
-          ∙ ap (λ (k : ℕ). refusal p (publish k) (leaves p x (m .rec))) (length-take-le 28 (m .outputs) enough)
-          ∙ publish-ends p fine (m .rec) h scan,
+      ap (λ u. replyTo s (on (publish 28)) u .number) now ∙ reply-number s c e (publish 28) (moment t (m .outputs)) ∙ closes,
+      ap (λ u. inScan (after s (on (publish 28)) u .rec)) now ∙ ap (λ u. inScan (u .rec)) closed ∙ rw (change-at (publishWord (c .rows) t) t 0 there),
     )
+
+-- ---- check
+
+pub check-tells : CheckTells
+unfolding answerAt answerTo
+check-tells c keeps m = ap answerTo (kept-accepted ours c keeps)
 
 -- ---- all of them
 
@@ -133,7 +154,8 @@ promises =
     record {
       every-call-answers = every-call-answers;
       accepted-exactly = accepted-exactly ours;
-      by-the-rules = by-the-rules;
+      check-tells = check-tells;
+      by-its-rule = by-its-rule;
       rules-decide = rules-decide;
       scan-in-turns = scan-in-turns;
       stays-sound = stays-sound;

@@ -59,14 +59,6 @@ abbrev pub EndsFirst : List ℕ → List AnyCall → Moment → Type 0
 EndsFirst s [] m = Unit {0}
 EndsFirst s (x ∷ xs) m = ends s x m ≡ true
 
-abbrev pub isRun : AnyCall → Bool
-isRun check = false
-isRun (on coldStart) = false
-isRun (on warmStart) = false
-isRun (on (latch r e)) = false
-isRun (on (run c)) = true
-isRun (on (publish k)) = false
-
 -- how many blocks a call asks for, and some calls together
 abbrev pub asks : AnyCall → ℕ
 asks check = 0
@@ -118,8 +110,8 @@ pub record InTurns (s : List ℕ) (c : Circuit) (r : List ℤ) (e : ℤ) (before
       let go = length (linesOf c) - d in
       (replyTo s (on (run m)) now ≡ acceptedWith (min m go) (go - min m go))
       × (after s (on (run m)) now ≡ moment (put (stepsFrom (linesOf c) d (min m go) (now .rec)) done (pos (d + min m go))) (now .outputs))
-  -- every other call that does not end the scan changes nothing
-  pub others : (x : AnyCall) → isRun x ≡ false → ends s x now ≡ false → after s x now ≡ now
+  -- every other call that does not end the scan changes nothing, and so does a run of 0
+  pub others : (x : AnyCall) → asks x ≡ 0 → ends s x now ≡ false → after s x now ≡ now
   -- publish is accepted exactly when all blocks are worked out and 28 words are lent
   pub closes : (k : ℕ)
       → (replyTo s (on (publish k)) now .number ≡ 0) ↔ ((length (linesOf c) ≤ asked xs) × (length (take k (before .outputs)) ≡ 28))
