@@ -3,3 +3,4 @@ pub mod Fine
 pub mod Fits
 pub mod Turns
 pub mod Theorems
+pub mod Play

@@ -1,0 +1,45 @@
+-- One call among others: what it leaves of the moment before it. Assumes nothing.
+use Prim.Native.Nat.{ℕ}
+use mathlib.Core.Path.{_≡_, refl, ap, _∙_}
+use mathlib.Core.Bool.{false}
+use mathlib.Core.List.{List, _++_, append-nil}
+use lib.ListN.{length}
+use lib.Seq.{take-length, drop-length}
+use lib.IntN.{ℤ}
+use Rattle.circuit.specs.Circuit.{Verdict, refused, accepted, verdict}
+use Rattle.calls.specs.Calls.{Call, coldStart, warmStart, latch, run, publish, planOf, outputsBy, answerAfter, recordAfter, outputsAfter}
+use Rattle.calls.specs.Play.{on, moment, replyTo, after}
+use Rattle.calls.proofs.Theorems.{closes, outputs-stay}
+
+-- no call but publish writes an output word, on any bytes
+pub outputs-kept : (s : List ℕ) (x : Call) (l o : List ℤ) → closes x ≡ false → outputsAfter s x l o ≡ o
+unfolding outputsAfter
+outputs-kept s x l o e = by (verdict s)
+  where
+    by : (v : Verdict) → outputsBy v x l o ≡ o
+    by (refused number place) = refl
+    by (accepted c) = outputs-stay (planOf c) x l o e
+
+-- the calls that are lent none of them
+pub reply-kept : (s : List ℕ) (x : Call) (l o : List ℤ) → closes x ≡ false → replyTo s (on x) (moment l o) ≡ answerAfter s x l
+reply-kept s coldStart l o e = refl
+reply-kept s warmStart l o e = refl
+reply-kept s (latch r t) l o e = refl
+reply-kept s (run c) l o e = refl
+reply-kept s (publish k) l o e = cc
+
+pub after-kept : (s : List ℕ) (x : Call) (l o : List ℤ) → closes x ≡ false → after s (on x) (moment l o) ≡ moment (recordAfter s x l) o
+after-kept s coldStart l o e = rw (outputs-kept s coldStart l _ e)
+after-kept s warmStart l o e = rw (outputs-kept s warmStart l _ e)
+after-kept s (latch r t) l o e = rw (outputs-kept s (latch r t) l _ e)
+after-kept s (run c) l o e = rw (outputs-kept s (run c) l _ e)
+after-kept s (publish k) l o e = cc
+
+-- publish that is lent all output words
+module _ (s : List ℕ) (l o : List ℤ) where
+  pub reply-publish : replyTo s (on (publish (length o))) (moment l o) ≡ answerAfter s (publish (length o)) l
+  reply-publish = rw (take-length o)
+
+  pub after-publish : after s (on (publish (length o))) (moment l o)
+      ≡ moment (recordAfter s (publish (length o)) l) (outputsAfter s (publish (length o)) l o)
+  after-publish = rw (take-length o, drop-length o, append-nil)
