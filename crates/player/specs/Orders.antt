@@ -1,9 +1,12 @@
 -- Calls as numbers, so that a program can be given a list of them.
-use Prim.Native.Nat.{ℕ}
+use Prim.Native.Nat.{ℕ, _+_}
 use mathlib.Core.Bool.{cond}
-use mathlib.Core.List.{List}
+use mathlib.Core.List.{List, [], _∷_}
 use lib.Dec.{eqb}
+use lib.ListN.{getD}
 use lib.IntN.{ℤ}
+use mir.Syntax.{w32}
+use mir.Val.{toZ}
 use Rattle.calls.specs.Calls.{coldStart, warmStart, latch, run, publish}
 use Rattle.calls.specs.Play.{AnyCall, check, on}
 
@@ -14,3 +17,14 @@ callOf which c e r k =
     (cond (eqb which 1) (on warmStart)
     (cond (eqb which 2) (on (latch r e))
     (cond (eqb which 3) (on (run c)) (cond (eqb which 4) (on (publish k)) check))))
+
+-- an order has three words: the number of the call, c, and the bits of e; fewer words at the end are none
+abbrev pub callsOf : List ℕ → List ℤ → ℕ → List AnyCall
+callsOf [] r k = []
+callsOf (which ∷ []) r k = []
+callsOf (which ∷ c ∷ []) r k = []
+callsOf (which ∷ c ∷ e ∷ rest) r k = callOf which c (toZ w32 e) r k ∷ callsOf rest r k
+
+-- the order that begins at a place
+abbrev pub callAt : List ℕ → ℕ → List ℤ → ℕ → AnyCall
+callAt orders i r k = callOf (getD orders i 0) (getD orders (i + 1) 0) (toZ w32 (getD orders (i + 2) 0)) r k

@@ -1,20 +1,21 @@
 // Makes calls that are given as numbers: what `play` says of a list of calls is what the calls do.
 ghost use mathlib.Core.Path.{_≡_};
+ghost use Prim.Native.Nat.{_+_, _≤_};
 ghost use lib.ListN.{length};
-ghost use Rattle.calls.specs.Play.{moment, replyTo, after};
-ghost use Rattle.player.specs.Orders.{callOf};
+ghost use Rattle.calls.specs.Play.{moment, replyTo, after, play};
+ghost use Rattle.player.specs.Orders.{callOf, callAt, callsOf};
 use refusals::Answer;
 
 // The numbers of the calls; any other is check's.
-const COLD_START: u8 = 0;
+const COLD_START: u32 = 0;
 
-const WARM_START: u8 = 1;
+const WARM_START: u32 = 1;
 
-const LATCH: u8 = 2;
+const LATCH: u32 = 2;
 
-const RUN: u8 = 3;
+const RUN: u32 = 3;
 
-const PUBLISH: u8 = 4;
+const PUBLISH: u32 = 4;
 
 // Makes one call: latch with all input words and e, run with c, publish with all output words.
 pub fn make(
@@ -22,7 +23,7 @@ pub fn make(
     rec: &mut [i32],
     outs: &mut [i32],
     inputs: &[i32],
-    which: u8,
+    which: u32,
     c: u32,
     e: i32,
 ) -> Answer
@@ -45,4 +46,31 @@ pub fn make(
         return scan::publish(circuit, rec, outs);
     }
     circuit::check(circuit)
+}
+
+// Makes the call of the order whose three words begin at a place.
+fn make_at(
+    circuit: &[u8],
+    rec: &mut [i32],
+    outs: &mut [i32],
+    inputs: &[i32],
+    orders: &[u32],
+    at: usize,
+)
+    requires { ⌜ at + 3 ≤ length (now orders) ⌝ }
+    ensures { λ r. ⌜ moment (now (rec .exit)) (now (outs .exit)) ≡ after (now (circuit .entry)) (callAt (now (orders .entry)) at (now (inputs .entry)) (length (now (outs .entry)))) (moment (now (rec .entry)) (now (outs .entry))) ⌝ }
+{
+    let e = words::signed_of(orders[at + 2]);
+    make(circuit, rec, outs, inputs, orders[at], orders[at + 1], e);
+}
+
+// Makes the calls of a list of orders one after the other.
+pub fn play_all(circuit: &[u8], rec: &mut [i32], outs: &mut [i32], inputs: &[i32], orders: &[u32])
+    ensures { λ r. ⌜ moment (now (rec .exit)) (now (outs .exit)) ≡ play (now (circuit .entry)) (callsOf (now (orders .entry)) (now (inputs .entry)) (length (now (outs .entry)))) (moment (now (rec .entry)) (now (outs .entry))) .last ⌝ }
+{
+    let mut at = 0;
+    while 3 <= orders.len() - at {
+        make_at(circuit, rec, outs, inputs, orders, at);
+        at += 3;
+    }
 }
