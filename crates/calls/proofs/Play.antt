@@ -1,10 +1,10 @@
 -- One call among others: what it leaves of the moment before it. Assumes nothing.
-use Prim.Native.Nat.{ℕ}
-use mathlib.Core.Path.{_≡_, refl, ap, _∙_}
+use Prim.Native.Nat.{ℕ, _≤_}
+use mathlib.Core.Path.{_≡_, refl}
 use mathlib.Core.Bool.{false}
-use mathlib.Core.List.{List, _++_, append-nil}
-use lib.ListN.{length}
-use lib.Seq.{take-length, drop-length}
+use mathlib.Core.List.{List, append-nil}
+use lib.ListN.{length, drop-of-length-le}
+use lib.Seq.{take-all}
 use lib.IntN.{ℤ}
 use Rattle.circuit.specs.Circuit.{Verdict, refused, accepted, verdict}
 use Rattle.calls.specs.Calls.{Call, coldStart, warmStart, latch, run, publish, planOf, outputsBy, answerAfter, recordAfter, outputsAfter}
@@ -36,10 +36,9 @@ after-kept s (run c) l o e = rw (outputs-kept s (run c) l _ e)
 after-kept s (publish k) l o e = cc
 
 -- publish that is lent all output words
-module _ (s : List ℕ) (l o : List ℤ) where
-  pub reply-publish : replyTo s (on (publish (length o))) (moment l o) ≡ answerAfter s (publish (length o)) l
-  reply-publish = rw (take-length o)
+module _ (s : List ℕ) (k : ℕ) (l o : List ℤ) (all : length o ≤ k) where
+  pub reply-publish : replyTo s (on (publish k)) (moment l o) ≡ answerAfter s (publish (length o)) l
+  reply-publish = rw (take-all k o)
 
-  pub after-publish : after s (on (publish (length o))) (moment l o)
-      ≡ moment (recordAfter s (publish (length o)) l) (outputsAfter s (publish (length o)) l o)
-  after-publish = rw (take-length o, drop-length o, append-nil)
+  pub after-publish : after s (on (publish k)) (moment l o) ≡ moment (recordAfter s (publish (length o)) l) (outputsAfter s (publish (length o)) l o)
+  after-publish = rw (take-all k o, drop-of-length-le o all, append-nil)

@@ -24,8 +24,8 @@ drop-three l i h =
 
 -- ---- orders
 
-module _ (r : List ℤ) (k : ℕ) where
-  few : (l : List ℕ) → length l < 3 → callsOf l r k ≡ []
+module _ (r : List ℤ) where
+  few : (l : List ℕ) → length l < 3 → callsOf l r ≡ []
   few [] h = refl
   few (x ∷ []) h = refl
   few (x ∷ y ∷ []) h = refl
@@ -33,10 +33,10 @@ module _ (r : List ℤ) (k : ℕ) where
 
   module _ (s : List ℕ) (orders : List ℕ) (i : ℕ) where
     -- one more call is made: those behind it are left
-    pub play-next : i + 3 ≤ length orders → (m : Moment) {n : Moment} → n ≡ after s (callAt orders i r k) m
-        → play s (callsOf (drop i orders) r k) m .last ≡ play s (callsOf (drop (i + 3) orders) r k) n .last
+    pub play-next : i + 3 ≤ length orders → (m : Moment) {n : Moment} → n ≡ after s (callAt orders i r) m
+        → play s (callsOf (drop i orders) r) m .last ≡ play s (callsOf (drop (i + 3) orders) r) n .last
     play-next h m e = rw (drop-three orders i h, e)
 
     -- none is left
-    pub play-end : length orders - i < 3 → (m : Moment) → play s (callsOf (drop i orders) r k) m .last ≡ m
+    pub play-end : length orders - i < 3 → (m : Moment) → play s (callsOf (drop i orders) r) m .last ≡ m
     play-end h m = rw (few (drop i orders) (rw length-drop h))

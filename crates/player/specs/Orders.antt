@@ -10,21 +10,21 @@ use mir.Val.{toZ}
 use Rattle.calls.specs.Calls.{coldStart, warmStart, latch, run, publish}
 use Rattle.calls.specs.Play.{AnyCall, check, on}
 
--- 0 cold start, 1 warm start, 2 latch of the input words r and e, 3 run c, 4 publish with k output words lent, any other number check
-unfoldable pub callOf : ℕ → ℕ → ℤ → List ℤ → ℕ → AnyCall
-callOf which c e r k =
+-- 0 cold start, 1 warm start, 2 latch of the input words r and e, 3 run c, 4 publish with the first c output words, any other number check
+unfoldable pub callOf : ℕ → ℕ → ℤ → List ℤ → AnyCall
+callOf which c e r =
     cond (eqb which 0) (on coldStart)
     (cond (eqb which 1) (on warmStart)
     (cond (eqb which 2) (on (latch r e))
-    (cond (eqb which 3) (on (run c)) (cond (eqb which 4) (on (publish k)) check))))
+    (cond (eqb which 3) (on (run c)) (cond (eqb which 4) (on (publish c)) check))))
 
 -- an order has three words: the number of the call, c, and the bits of e; fewer words at the end are none
-abbrev pub callsOf : List ℕ → List ℤ → ℕ → List AnyCall
-callsOf [] r k = []
-callsOf (which ∷ []) r k = []
-callsOf (which ∷ c ∷ []) r k = []
-callsOf (which ∷ c ∷ e ∷ rest) r k = callOf which c (toZ w32 e) r k ∷ callsOf rest r k
+abbrev pub callsOf : List ℕ → List ℤ → List AnyCall
+callsOf [] r = []
+callsOf (which ∷ []) r = []
+callsOf (which ∷ c ∷ []) r = []
+callsOf (which ∷ c ∷ e ∷ rest) r = callOf which c (toZ w32 e) r ∷ callsOf rest r
 
 -- the order that begins at a place
-abbrev pub callAt : List ℕ → ℕ → List ℤ → ℕ → AnyCall
-callAt orders i r k = callOf (getD orders i 0) (getD orders (i + 1) 0) (toZ w32 (getD orders (i + 2) 0)) r k
+abbrev pub callAt : List ℕ → ℕ → List ℤ → AnyCall
+callAt orders i r = callOf (getD orders i 0) (getD orders (i + 1) 0) (toZ w32 (getD orders (i + 2) 0)) r

@@ -1,7 +1,7 @@
 -- `player::make_at` meets its contract: the words at the place are handed to `make`. Assumes nothing.
 use Prim.Native.Nat.{_+_}
 use mathlib.Core.Path.{ap, _∙_}
-use lib.ListN.{length, getD}
+use lib.ListN.{getD}
 use lib.IntN.{ℤ}
 use Rattle.words.proofs.Locals.{back-to}
 use Rattle.calls.specs.Play.{moment, after}
@@ -53,7 +53,7 @@ returns c =
     let outs = c .before .before .before .before .before .before .before .before .before .before .before .args .outs .now in
     let same = back-to (c .before .before .before .before .before .before .before .signed-of .result) (c .before .before .before .before .before .before .before .signed-of .ok) (c .before .before .before .before .before .before .before .signed-of .ensures) in
     c .before .before .make .ensures .1
-    ∙ ap (λ (z : ℤ). after (c .before .before .before .before .before .before .before .before .before .before .before .args .circuit .now) (callOf (getD orders at 0) (getD orders (at + 1) 0) z (c .before .before .before .before .before .before .before .before .before .before .before .args .inputs .now) (length outs)) (moment (c .before .before .before .before .before .before .before .before .before .before .before .args .rec .now) outs)) same
+    ∙ ap (λ (z : ℤ). after (c .before .before .before .before .before .before .before .before .before .before .before .args .circuit .now) (callOf (getD orders at 0) (getD orders (at + 1) 0) z (c .before .before .before .before .before .before .before .before .before .before .before .args .inputs .now)) (moment (c .before .before .before .before .before .before .before .before .before .before .before .args .rec .now) outs)) same
 
 pub make-at-spec : {M : Type 1} → statement M
 make-at-spec =

@@ -13,8 +13,8 @@ use Rattle.player.proofs.play_all.Tie as tie
 abbrev Inv-loop : tie.InvT-loop
 Inv-loop circuit rec₀ outs₀ inputs orders at₀ rec outs at =
     (at ≤ length orders) × (length rec ≡ length rec₀) × (length outs ≡ length outs₀)
-    × (play circuit (callsOf (drop at orders) inputs (length outs₀)) (moment rec outs) .last
-    ≡ play circuit (callsOf orders inputs (length outs₀)) (moment rec₀ outs₀) .last)
+    × (play circuit (callsOf (drop at orders) inputs) (moment rec outs) .last
+    ≡ play circuit (callsOf orders inputs) (moment rec₀ outs₀) .last)
 
 abbrev μ-loop : tie.MeasureT-loop
 μ-loop circuit rec₀ outs₀ inputs orders at₀ rec outs at = length orders - at
@@ -36,8 +36,7 @@ loop-less c = omega arith
 
 loop-again : tie.Need-loop-again Inv-loop μ-loop
 loop-again c =
-    let one = rw (c .before .before .before .before .before .before .loop .inv .2) at (c .before .before .make-at .ensures) in
-    let next = play-next (c .before .before .before .before .before .before .before .before .before .args .inputs .now) (length (c .before .before .before .before .before .before .before .before .before .args .outs .now)) (c .before .before .before .before .before .before .before .before .before .args .circuit .now) (c .before .before .before .before .before .before .before .before .before .args .orders .now) (c .before .before .before .before .before .before .loop .at) (omega arith) (moment (c .before .before .before .before .before .before .loop .rec) (c .before .before .before .before .before .before .loop .outs)) one in
+    let next = play-next (c .before .before .before .before .before .before .before .before .before .args .inputs .now) (c .before .before .before .before .before .before .before .before .before .args .circuit .now) (c .before .before .before .before .before .before .before .before .before .args .orders .now) (c .before .before .before .before .before .before .loop .at) (omega arith) (moment (c .before .before .before .before .before .before .loop .rec) (c .before .before .before .before .before .before .loop .outs)) (c .before .before .make-at .ensures) in
     (omega arith, c .before .before .make-at .kept .1 .0 ∙ c .before .before .before .before .before .before .loop .inv .1, c .before .before .make-at .kept .1 .1 .0 ∙ c .before .before .before .before .before .before .loop .inv .2, sym next ∙ c .before .before .before .before .before .before .loop .inv .3)
 
 same-length : tie.Need-same-length Inv-loop μ-loop
@@ -48,7 +47,7 @@ same-length-2 c = c .before .loop .inv .2
 
 returns : tie.Need-returns Inv-loop μ-loop
 returns c =
-    sym (play-end (c .before .before .before .before .args .inputs .now) (length (c .before .before .before .before .args .outs .now)) (c .before .before .before .before .args .circuit .now) (c .before .before .before .before .args .orders .now) (c .before .loop .at) (omega arith) (moment (c .before .loop .rec) (c .before .loop .outs)))
+    sym (play-end (c .before .before .before .before .args .inputs .now) (c .before .before .before .before .args .circuit .now) (c .before .before .before .before .args .orders .now) (c .before .loop .at) (omega arith) (moment (c .before .loop .rec) (c .before .loop .outs)))
     ∙ c .before .loop .inv .3
 
 pub play-all-spec : {M : Type 1} → statement M
