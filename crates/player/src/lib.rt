@@ -18,6 +18,9 @@ const RUN: u32 = 3;
 
 const PUBLISH: u32 = 4;
 
+// Words of an order.
+const ORDER: usize = 3;
+
 // Publish with the first k output words, or all where there are fewer.
 fn publish_first(circuit: &[u8], rec: &mut [i32], outs: &mut [i32], k: u32) -> Answer
     ensures { λ r. ⌜ (r ≡ replyTo (now (circuit .entry)) (on (publish k)) (moment (now (rec .entry)) (now (outs .entry))))
@@ -82,8 +85,8 @@ pub fn play_all(circuit: &[u8], rec: &mut [i32], outs: &mut [i32], inputs: &[i32
     ensures { λ r. ⌜ moment (now (rec .exit)) (now (outs .exit)) ≡ play (now (circuit .entry)) (callsOf (now (orders .entry)) (now (inputs .entry))) (moment (now (rec .entry)) (now (outs .entry))) .last ⌝ }
 {
     let mut at = 0;
-    while 3 <= orders.len() - at {
+    while ORDER <= orders.len() - at {
         make_at(circuit, rec, outs, inputs, orders, at);
-        at += 3;
+        at += ORDER;
     }
 }
