@@ -1,2 +1,3 @@
 pub mod Made
-pub mod Ordered
+pub mod Orders
+pub mod Any

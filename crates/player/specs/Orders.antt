@@ -1,12 +1,14 @@
 -- Calls as numbers, so that a program can be given a list of them.
 use Prim.Native.Nat.{ℕ, _+_}
+use mathlib.Core.Path.{_≡_}
 use mathlib.Core.Bool.{cond}
 use mathlib.Core.List.{List, [], _∷_}
 use lib.Dec.{eqb}
 use lib.ListN.{getD}
 use lib.IntN.{ℤ}
 use mir.Syntax.{w32}
-use mir.Val.{toZ}
+use mir.Val.{toZ, Fits, SFits}
+use Rattle.kept.specs.Keeps.{All}
 use Rattle.calls.specs.Calls.{coldStart, warmStart, latch, run, publish}
 use Rattle.calls.specs.Play.{AnyCall, check, on}
 
@@ -28,3 +30,19 @@ callsOf (which ∷ c ∷ e ∷ rest) r = callOf which c (toZ w32 e) r ∷ callsO
 -- the order that begins at a place
 abbrev pub callAt : List ℕ → ℕ → List ℤ → AnyCall
 callAt orders i r = callOf (getD orders i 0) (getD orders (i + 1) 0) (toZ w32 (getD orders (i + 2) 0)) r
+
+-- ---- every list of calls has its orders
+
+-- a call on the input words r whose numbers are of 32 bits
+abbrev pub Given : List ℤ → AnyCall → Type 0
+Given r check = Unit {0}
+Given r (on coldStart) = Unit {0}
+Given r (on warmStart) = Unit {0}
+Given r (on (latch q e)) = (q ≡ r) × SFits w32 e
+Given r (on (run c)) = Fits w32 c
+Given r (on (publish k)) = Fits w32 k
+
+pub record Ordered (r : List ℤ) (xs : List AnyCall) : Type 0 where
+  pub orders : List ℕ
+  pub words : All (Fits w32) orders
+  pub are : callsOf orders r ≡ xs

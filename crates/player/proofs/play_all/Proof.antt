@@ -6,7 +6,7 @@ use mathlib.Core.Path.{_≡_, refl, sym, _∙_}
 use lib.ListN.{length, drop}
 use Rattle.calls.specs.Play.{moment, play}
 use Rattle.player.specs.Orders.{callsOf}
-use Rattle.player.proofs.Ordered.{play-next, play-end}
+use Rattle.player.proofs.Orders.{play-next, play-end}
 use Rattle.player.proofs.play_all.Statement.{statement}
 use Rattle.player.proofs.play_all.Tie as tie
 
