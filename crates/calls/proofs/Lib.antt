@@ -7,4 +7,5 @@ pub mod Closing
 pub mod InTurns
 pub mod ByRules
 pub mod OnPlan
+pub mod Outputs
 pub mod Promises

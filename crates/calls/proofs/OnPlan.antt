@@ -1,18 +1,16 @@
--- The calls on the plan of a circuit: a sound record stays sound, a scan can be ended, no call but publish writes an output word. Assumes
--- nothing.
+-- The calls on the plan of a circuit: a sound record stays sound, a scan can be ended. Assumes nothing.
 use Prim.Native.Nat.{ℕ}
 use native.Mathlib.Omega.{arith}
-use mathlib.Core.Path.{_≡_, refl, _∙_}
-use mathlib.Core.Bool.{Bool, true, false, cond}
+use mathlib.Core.Path.{_≡_, _∙_}
+use mathlib.Core.Bool.{true}
 use mathlib.Core.List.{List}
-use lib.Dec.{eqb}
 use lib.IntN.{ℤ}
 use Rattle.record.specs.Sound.{inScan}
 use Rattle.record.proofs.Held.{Sound}
 use Rattle.steps.specs.Steps.{toGo, turned}
-use Rattle.calls.specs.Calls.{Call, coldStart, warmStart, latch, run, publish, Plan, refusal, leaves, shows, recordOn, outputsOn}
+use Rattle.calls.specs.Calls.{Call, coldStart, warmStart, latch, run, publish, Plan, refusal, leaves, recordOn}
 use Rattle.calls.specs.Fine.{FinePlan}
-use Rattle.calls.proofs.Accepts.{cold-told, latch-told, run-told, run-right, publish-right, record-accepted, record-refused, either-way}
+use Rattle.calls.proofs.Accepts.{latch-told, run-told, run-right, publish-right, record-accepted, record-refused, either-way}
 use Rattle.calls.proofs.Fits.{cold-sound, warm-sound, reading, latch-sound, publish-sound}
 use Rattle.calls.proofs.Turns.{turned-scan, turned-keeps, turned-all}
 
@@ -48,24 +46,3 @@ module _ (p : Plan) (fine : FinePlan p) (l : List ℤ) (s : Sound (p .lines) l) 
   publish-ends =
       publish-right p (turned (p .lines) c l) (turned-keeps (p .lines) c l (fine .lines) s scan) (turned-scan (p .lines) c l ∙ scan)
       (turned-all (p .lines) l (rw (s .long) (omega arith)))
-
--- ---- outputs change when a scan is closed, and not before
-
-abbrev pub closes : Call → Bool
-closes coldStart = false
-closes warmStart = false
-closes (latch r e) = false
-closes (run c) = false
-closes (publish k) = true
-
-either-same : (t : Bool) (o : List ℤ) → cond t o o ≡ o
-either-same true o = refl
-either-same false o = refl
-
-pub outputs-stay : (p : Plan) (x : Call) (l o : List ℤ) → closes x ≡ false → outputsOn p x l o ≡ o
-unfolding outputsOn shows
-outputs-stay p coldStart l o e = either-same (eqb (refusal p coldStart l) 0) o
-outputs-stay p warmStart l o e = either-same (eqb (refusal p warmStart l) 0) o
-outputs-stay p (latch r t) l o e = either-same (eqb (refusal p (latch r t) l) 0) o
-outputs-stay p (run c) l o e = either-same (eqb (refusal p (run c) l) 0) o
-outputs-stay p (publish k) l o e = cc
