@@ -223,7 +223,7 @@ table =
     -- "Gain −33, input 10, B 0: −3."
     ∷ (once atMinus3 (filled 1 0) (value 10) actual (pos 1 ∷ minus 3 ∷ []) ∷ [])
     -- "On = Off = 5: 5 gives 0, 6 gives 1."
-    ∷ (q1Over above5 0 (map value (5 ∷ 6 ∷ 5 ∷ [])) (0 ∷ 1 ∷ 0 ∷ []) ∷ [])
+    ∷ (q1Over above5 0 (map value (5 ∷ 6 ∷ 6 ∷ 5 ∷ [])) (0 ∷ 1 ∷ 1 ∷ 0 ∷ []) ∷ [])
     -- "Register 128, In 1, shift up: 1; shift down: 192."
     ∷ (shifted (1 ∷ 1 ∷ 0 ∷ []) 1 ∷ shifted (1 ∷ 1 ∷ 1 ∷ []) 192 ∷ [])
     -- "Rows M1 from M2 and M2 from M1: the two exchange."
