@@ -4,11 +4,11 @@
 #include <stdio.h>
 #include <stdlib.h>
 
-enum { ROOM = 65537, INPUTS = 32, OUTPUTS = 28, SCANS = 551, E = 65535 };
+enum { ROOM = 65537, INPUTS = SERIFDOVE_INPUT_WORD_COUNT, OUTPUTS = SERIFDOVE_OUTPUT_WORD_COUNT, SCANS = 551, E = 65535 };
 
 static uint8_t circuit[ROOM];
 static size_t circuit_len;
-static int32_t record[SERIFDOVE_RECORD_WORDS(400)], outputs[OUTPUTS];
+static int32_t record[SERIFDOVE_RECORD_WORDS(SERIFDOVE_MOST_BLOCKS)], outputs[OUTPUTS];
 static size_t record_len;
 
 static void print_answer(serifdove_answer a) {
