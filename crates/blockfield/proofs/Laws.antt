@@ -20,8 +20,8 @@ use Rattle.refusals.specs.Faults.{lowest}
 use Rattle.refusals.specs.declared.Limits.{Limits}
 use Rattle.connectors.specs.Connectors.{sixOrSeven, wrong}
 use Rattle.connectors.proofs.Laws.{none-wrong, none-later}
-use Rattle.blockfield.specs.BlockField.{kindAt, optionAt, digitalsAt, analogsAt, parametersFrom, parametersAt, signedAt, signedsAt, wrongLength, mostOption, wrongKind, wrongInputs, laterInputs, indexFrom, shiftRegister, blockFaults}
-use Rattle.blockfield.specs.Marked.{fourOf, knownFaults}
+use Rattle.blockfield.specs.BlockField.{kindAt, optionAt, digitalsAt, analogsAt, parametersFrom, parametersAt, fourOf, signedAt, signedsAt, wrongLength, mostOption, wrongKind, wrongInputs, laterInputs, indexFrom, shiftRegister, blockFaults}
+use Rattle.blockfield.specs.Marked.{knownFaults}
 
 -- ---- kinds
 

@@ -8,7 +8,7 @@ use lib.IntN.{ℤ}
 use mir.Syntax.{w32}
 use mir.Val.{toZ}
 use Rattle.words.specs.Bytes.{numberAt}
-use Rattle.kinds.specs.Kinds.{Kind, kindOf, known, contentLength, allowed}
+use Rattle.kinds.specs.Kinds.{Kind, kindOf, known, contentLength, allowed, parameter}
 use Rattle.refusals.specs.Faults.{Fault, _when_}
 use Rattle.refusals.specs.Stages.{opening, amongRows}
 use Rattle.refusals.specs.declared.Limits.{Limits}
@@ -44,6 +44,10 @@ signedsAt s at (suc k) = signedAt s at ∷ signedsAt s (at + 4) k
 
 abbrev pub parametersAt : List ℕ → ℕ → Kind → List ℤ
 parametersAt s at k = signedsAt s (parametersFrom at k) (length (k .parameters))
+
+-- four parameters, 0 where there is none
+abbrev pub fourOf : List ℤ → List ℤ
+fourOf p = parameter p 0 ∷ parameter p 1 ∷ parameter p 2 ∷ parameter p 3 ∷ []
 
 -- a shift register's index, its first parameter
 abbrev pub shiftRegister : ℕ
