@@ -9,7 +9,7 @@ ghost use Rattle.words.specs.Signed.{Between};
 ghost use Rattle.kinds.specs.Kinds.{kindOf, known, contentLength, parameter};
 ghost use Rattle.kinds.specs.Table.{kindsTable, Lent};
 ghost use Rattle.refusals.specs.Faults.{lowest};
-ghost use Rattle.connectors.specs.Connectors.{sixOrSeven};
+ghost use Rattle.connectors.specs.Named.{sixOrSeven};
 ghost use Rattle.blockfield.specs.BlockField.{digitalsAt, analogsAt, parametersAt, fourOf, signedAt, signedsAt, mostOption, wrongInputs, laterInputs, indexFrom, blockFaults};
 ghost use Rattle.blockfield.specs.Marked.{indexMark, knownFaults};
 use kinds::KindTable;

@@ -10,8 +10,8 @@ use lib.ListN.{getD}
 use borrow.Author.Tests.{ne-eqb, eqb-true, leb-true}
 use Rattle.words.proofs.Bounds.{and-true}
 use Rattle.refusals.specs.declared.Limits.{Limits}
-use Rattle.connectors.specs.Connectors.{member, takes, inverts, names, least, greatest, connectorAt, connectorsAt, wrong, later, anyOf, sixOrSeven}
-use Rattle.connectors.specs.Named.{lower}
+use Rattle.connectors.specs.Connectors.{member, takes, inverts, names, least, greatest, connectorAt, connectorsAt, wrong, later, anyOf}
+use Rattle.connectors.specs.Named.{sixOrSeven, lower}
 
 -- ---- tests
 

@@ -5,7 +5,6 @@ use mathlib.Core.List.{List, [], _∷_}
 use lib.Dec.{leb, ltb, eqb}
 use lib.ListN.{getD}
 use Rattle.words.specs.Bytes.{numberAt}
-use Rattle.refusals.specs.Faults.{lowest, _when_}
 use Rattle.refusals.specs.declared.Limits.{Limits}
 
 -- ---- a connector: "a class byte and a two-byte number"
@@ -113,7 +112,3 @@ later own c = names (classOf c) && leb own (c .number)
 unfoldable pub anyOf : (Connector → Bool) → List Connector → Bool
 anyOf f [] = false
 anyOf f (c ∷ l) = f c || anyOf f l
-
--- the lowest that holds for a connector, or for some of several
-unfoldable pub sixOrSeven : Bool → Bool → ℕ
-sixOrSeven isWrong isLater = lowest (6 when isWrong ∷ 7 when isLater ∷ [])

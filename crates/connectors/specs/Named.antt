@@ -1,10 +1,15 @@
 -- What the functions below the judging of a connector answer. Not part of what a reader has to believe.
 use Prim.Native.Nat.{ℕ}
 use mathlib.Core.Bool.{Bool, Bool·beq, false, not, _&&_, _||_, cond}
-use mathlib.Core.List.{List, _∷_}
+use mathlib.Core.List.{List, [], _∷_}
 use lib.Dec.{leb, ltb, eqb}
 use lib.ListN.{getD}
-use Rattle.connectors.specs.Connectors.{sixOrSeven, namesAnalog, unknownRow}
+use Rattle.refusals.specs.Faults.{lowest, _when_}
+use Rattle.connectors.specs.Connectors.{namesAnalog, unknownRow}
+
+-- the lowest that holds for a connector, or for some of several
+unfoldable pub sixOrSeven : Bool → Bool → ℕ
+sixOrSeven isWrong isLater = lowest (6 when isWrong ∷ 7 when isLater ∷ [])
 
 -- a connector of a right class that names a block
 unfoldable pub namedNumber : ℕ → ℕ → ℕ → List Bool → ℕ → ℕ → ℕ

@@ -4,8 +4,8 @@ ghost use mathlib.Core.Bool.{false, not, _&&_, _||_};
 ghost use Prim.Native.Nat.{ℕ, _+_, _*_, _≤_, _<_};
 ghost use lib.ListN.{length};
 ghost use lib.Dec.{leb, ltb};
-ghost use Rattle.connectors.specs.Connectors.{member, takes, inverts, least, greatest, names, connectorAt, connectorsAt, wrong, later, anyOf, sixOrSeven};
-ghost use Rattle.connectors.specs.Named.{namedNumber, lower as lowerOf};
+ghost use Rattle.connectors.specs.Connectors.{member, takes, inverts, least, greatest, names, connectorAt, connectorsAt, wrong, later, anyOf};
+ghost use Rattle.connectors.specs.Named.{sixOrSeven, namedNumber, lower as lowerOf};
 use refusals::Limits;
 
 // Where a connector stands: in a digital input, in an analog one, in a row of unknown class. Rows of digital and analog ones are 2 and 3.

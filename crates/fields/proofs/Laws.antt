@@ -9,7 +9,8 @@ use borrow.Author.Tests.{ltb-false, eqb-false, lt-leb}
 use Rattle.refusals.proofs.Tests.{or-false}
 use Rattle.refusals.specs.Limited.{Modest}
 use Rattle.refusals.specs.declared.Limits.{Limits}
-use Rattle.connectors.specs.Connectors.{Connector, classOf, isInverted, member, takes, inverts, least, greatest, names, misfits, wrongSort, wrong, later, connectorAt, sixOrSeven}
+use Rattle.connectors.specs.Connectors.{Connector, classOf, isInverted, member, takes, inverts, least, greatest, names, misfits, wrongSort, wrong, later, connectorAt}
+use Rattle.connectors.specs.Named.{sixOrSeven}
 use Rattle.connectors.proofs.Laws.{same-at, names-greatest, none-wrong, is-wrong}
 use Rattle.fields.specs.Fields.{limitOf, placeOf, unknown, classAt}
 use Rattle.fields.specs.Marks.{base, mark}

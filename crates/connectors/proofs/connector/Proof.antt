@@ -1,7 +1,8 @@
 -- `connectors::connector` meets its contract: its byte and its number are read, then judged. Assumes nothing.
 use mathlib.Core.Path.{ap₂, _∙_}
 use Prim.Native.Nat.{ℕ}
-use Rattle.connectors.specs.Connectors.{Connector, wrong, later, sixOrSeven}
+use Rattle.connectors.specs.Connectors.{Connector, wrong, later}
+use Rattle.connectors.specs.Named.{sixOrSeven}
 use borrow.Author.Needs.{needs}
 use Rattle.connectors.proofs.connector.Statement.{statement}
 use Rattle.connectors.proofs.connector.Tie as tie
