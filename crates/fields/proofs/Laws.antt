@@ -7,7 +7,7 @@ use lib.Dec.{eqb, leb, ltb}
 use mathlib.Core.List.{List}
 use borrow.Author.Tests.{ltb-false, eqb-false, lt-leb}
 use Rattle.refusals.proofs.Tests.{or-false}
-use Rattle.refusals.specs.Limited.{Modest}
+use Rattle.refusals.specs.Modest.{Modest}
 use Rattle.refusals.specs.declared.Limits.{Limits}
 use Rattle.connectors.specs.Connectors.{Connector, classOf, isInverted, member, takes, inverts, least, greatest, names, misfits, wrongSort, wrong, later, connectorAt}
 use Rattle.connectors.specs.Named.{sixOrSeven}

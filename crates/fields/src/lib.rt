@@ -4,7 +4,7 @@ ghost use mathlib.Core.Bool.{false};
 ghost use Prim.Native.Nat.{_+_, _≤_, _<_};
 ghost use lib.ListN.{length, getD};
 ghost use Rattle.refusals.specs.Faults.{lowest};
-ghost use Rattle.refusals.specs.Limited.{Modest};
+ghost use Rattle.refusals.specs.Modest.{Modest};
 ghost use Rattle.fields.specs.Fields.{headerFaults, labelFaults, limitOf, placeOf, unknown, classAt, numberIn, rowFaults, endFaults};
 ghost use Rattle.fields.specs.Marks.{mark};
 use refusals::AFTER_BLOCK;

@@ -8,7 +8,8 @@ use borrow.Author.Tests.{leb-true}
 use lib.Dec.{leb}
 use Rattle.words.proofs.Bounds.{and-true}
 use Rattle.refusals.specs.Faults.{Fault, lowest, risesFrom, rises}
-use Rattle.refusals.specs.Limited.{ours, Modest}
+use Rattle.refusals.specs.Limited.{ours}
+use Rattle.refusals.specs.Modest.{Modest}
 
 -- a number is at most each one of a list that holds
 abbrev pub AtMost : ℕ → List Fault → Type 0
