@@ -135,7 +135,7 @@ fn pass(
     }
 }
 
-// Judges a circuit. Where it is accepted, `offsets` then has where its blocks stand.
+// Judges a circuit. Where it is accepted, `offsets` then has where its blocks stand. For the crates above; not a call.
 pub fn judge(
     limits: Limits,
     kinds: &KindTable,

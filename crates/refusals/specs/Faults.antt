@@ -1,5 +1,6 @@
 -- Document 01, "Refusal numbers and their order": "The first field with a fault is named, with the lowest number that holds for it".
-use Prim.Native.Nat.{ℕ}
+use Prim.Native.Nat.{ℕ, _≤_}
+use mathlib.Core.Path.{_≡_}
 use mathlib.Core.Bool.{Bool, true, cond, _&&_}
 use mathlib.Core.List.{List, [], _∷_}
 use lib.Dec.{leb}
@@ -17,6 +18,11 @@ k when b = record { number = k; holds = b }
 abbrev pub lowest : List Fault → ℕ
 lowest [] = 0
 lowest (f ∷ l) = cond (f .holds) (f .number) (lowest l)
+
+-- none of a list's numbers that hold is below k
+abbrev pub AtMost : ℕ → List Fault → Type 0
+AtMost k [] = Unit {0}
+AtMost k (f ∷ l) = (f .holds ≡ true → k ≤ f .number) × AtMost k l
 
 -- no number of a list is below one before it
 abbrev pub risesFrom : ℕ → List Fault → Bool
