@@ -34,7 +34,7 @@ unfoldable pub member : ℕ → List ℕ → Bool
 member x [] = false
 member x (y ∷ l) = eqb x y || member x l
 
--- where a connector stands: in a digital or an analog input, in a row of a digital, an analog or an unknown destination
+-- a connector's spot: in a digital or an analog input, in a row of a digital, an analog or an unknown destination
 abbrev pub digitalInput : ℕ
 digitalInput = 0
 
@@ -53,7 +53,7 @@ unknownRow = 4
 -- "Digital inputs take classes 0 to 4 and 6, analog inputs 7 to 9"; "A row's connector may not be unused"; "in a row of unknown
 -- class: 0 or not in the list"
 unfoldable pub takes : ℕ → List ℕ
-takes place =
+takes spot =
     getD
     ((0 ∷ 1 ∷ 2 ∷ 3 ∷ 4 ∷ 6 ∷ [])
     ∷ (7 ∷ 8 ∷ 9 ∷ [])
@@ -61,7 +61,7 @@ takes place =
     ∷ (7 ∷ 8 ∷ 9 ∷ [])
     ∷ (1 ∷ 2 ∷ 3 ∷ 4 ∷ 6 ∷ 7 ∷ 8 ∷ 9 ∷ [])
     ∷ [])
-    place
+    spot
     []
 
 -- "allowed on 1, 2, 3, 4, 6 only"
@@ -87,20 +87,20 @@ namesAnalog k = eqb k 9
 
 -- "class .., number, inversion"; "block number 0 or above n"
 unfoldable pub misfits : Limits → ℕ → ℕ → Connector → Bool
-misfits limits place n c =
-    not (member (classOf c) (takes place))
+misfits limits spot n c =
+    not (member (classOf c) (takes spot))
     || ((isInverted c && not (inverts (classOf c)))
     || (ltb (c .number) (least (classOf c)) || ltb (greatest limits n (classOf c)) (c .number)))
 
 -- "a named block not of the sort its class says (not judged for an own or later block, nor in a row of unknown class)". `own` is the
 -- number of the block whose input it is, and n + 1 in a row; `sorts` tells of the blocks before, from 1, which are analog
 unfoldable pub wrongSort : ℕ → ℕ → List Bool → Connector → Bool
-wrongSort place own sorts c =
+wrongSort spot own sorts c =
     (names (classOf c) && ltb (c .number) own)
-    && (not (eqb place unknownRow) && not (Bool·beq (getD (false ∷ sorts) (c .number) false) (namesAnalog (classOf c))))
+    && (not (eqb spot unknownRow) && not (Bool·beq (getD (false ∷ sorts) (c .number) false) (namesAnalog (classOf c))))
 
 unfoldable pub wrong : Limits → ℕ → ℕ → ℕ → List Bool → Connector → Bool
-wrong limits place own n sorts c = misfits limits place n c || wrongSort place own sorts c
+wrong limits spot own n sorts c = misfits limits spot n c || wrongSort spot own sorts c
 
 -- ---- 7: "own or later block named"
 

@@ -13,10 +13,10 @@ sixOrSeven isWrong isLater = lowest (6 when isWrong ∷ 7 when isLater ∷ [])
 
 -- a connector of a right class that names a block
 unfoldable pub namedNumber : ℕ → ℕ → ℕ → List Bool → ℕ → ℕ → ℕ
-namedNumber place own n sorts class number =
+namedNumber spot own n sorts class number =
     sixOrSeven
     ((ltb number 1 || ltb n number)
-    || (ltb number own && (not (eqb place unknownRow) && not (Bool·beq (getD (false ∷ sorts) number false) (namesAnalog class)))))
+    || (ltb number own && (not (eqb spot unknownRow) && not (Bool·beq (getD (false ∷ sorts) number false) (namesAnalog class)))))
     (leb own number)
 
 -- the lower of two refusal numbers; 0 is none

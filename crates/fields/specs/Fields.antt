@@ -32,8 +32,8 @@ labelFaults size stage = (2 when (not (eqb stage afterBlock) || ltb 16 size) ∷
 unfoldable pub limitOf : Limits → ℕ → ℕ
 limitOf limits class = getD (0 ∷ limits .q ∷ limits .m ∷ limits .aq ∷ limits .am ∷ []) class 0
 
-unfoldable pub placeOf : ℕ → ℕ
-placeOf class = getD (unknownRow ∷ digitalRow ∷ digitalRow ∷ analogRow ∷ analogRow ∷ []) class unknownRow
+unfoldable pub spotOf : ℕ → ℕ
+spotOf class = getD (unknownRow ∷ digitalRow ∷ digitalRow ∷ analogRow ∷ analogRow ∷ []) class unknownRow
 
 abbrev pub unknown : Limits → ℕ → ℕ → Bool
 unknown limits class number = eqb number 0 || ltb (limitOf limits class) number
@@ -49,7 +49,7 @@ unfoldable pub rowFaults : Limits → List ℕ → ℕ → ℕ → ℕ → ℕ �
 rowFaults limits s at size stage n count sorts used =
     (2 when (eqb stage opening || not (eqb size 5))
     ∷ 4 when ltb count n
-    ∷ 6 when wrong limits (placeOf (classAt s at)) (count + 1) n sorts (connectorAt s (at + 5))
+    ∷ 6 when wrong limits (spotOf (classAt s at)) (count + 1) n sorts (connectorAt s (at + 5))
     ∷ 9 when (unknown limits (classAt s at) (numberIn s at) || used)
     ∷ [])
 

@@ -16,7 +16,7 @@ use Rattle.kinds.specs.Kinds.{Kind, In, _to_, kinds, kindOf, parameter}
 use Rattle.refusals.specs.declared.Limits.{Limits}
 use Rattle.connectors.specs.Connectors.{Connector, classOf, member, takes, inverts, least, greatest, names, namesAnalog, digitalInput, analogInput}
 use Rattle.blockfield.specs.BlockField.{mostOption, shiftRegister}
-use Rattle.fields.specs.Fields.{limitOf, placeOf}
+use Rattle.fields.specs.Fields.{limitOf, spotOf}
 use Rattle.decoding.specs.Decoded.{Block, Row, Circuit, sortsOf, indexOf}
 
 -- ---- lists
@@ -47,9 +47,9 @@ Bytes s = (i : ℕ) → getD s i 0 < 256
 -- ---- connectors
 
 -- by where it stands, in a circuit of n blocks
-pub record Allowed (limits : Limits) (place n : ℕ) (c : Connector) : Type 0 where
+pub record Allowed (limits : Limits) (spot n : ℕ) (c : Connector) : Type 0 where
   pub byte : c .class < 256
-  pub class : member (classOf c) (takes place) ≡ true
+  pub class : member (classOf c) (takes spot) ≡ true
   -- "Adding 0x80 inverts; allowed on 1, 2, 3, 4, 6 only"
   pub inversion : 128 ≤ c .class → inverts (classOf c) ≡ true
   pub low : least (classOf c) ≤ c .number
@@ -112,7 +112,7 @@ pub record RowKeeps (limits : Limits) (n : ℕ) (r : Row) : Type 0 where
   pub high : r .number ≤ limitOf limits (r .class)
   -- a byte holds it
   pub fits : r .number < 256
-  pub from : Allowed limits (placeOf (r .class)) n (r .from)
+  pub from : Allowed limits (spotOf (r .class)) n (r .from)
 
 -- another destination
 pub record Other (r a : Row) : Type 0 where

@@ -13,7 +13,7 @@ use Rattle.connectors.proofs.connected.Tie as tie
 
 returns : tie.Need-returns
 unfolding wrong misfits sixOrSeven
-returns c = simp (takes-above (c .before .args .place) (c .before .args .byte % 128) (c .if1 .taken))
+returns c = simp (takes-above (c .before .args .spot) (c .before .args .byte % 128) (c .if1 .taken))
 
 takes-class-requires : tie.Need-takes-class-requires
 takes-class-requires c κs = search needs
