@@ -10,7 +10,7 @@ use lib.ListN.{getD}
 use borrow.Author.Tests.{ne-eqb, eqb-true, leb-true}
 use Rattle.words.proofs.Bounds.{and-true}
 use Rattle.refusals.specs.declared.Limits.{Limits}
-use Rattle.connectors.specs.Connectors.{member, takes, inverts, names, least, greatest, connectorAt, connectorsAt, wrong, later, anyOf}
+use Rattle.connectors.specs.Connectors.{member, takes, inverts, namesBlock, least, greatest, connectorAt, connectorsAt, wrong, later, anyOf}
 use Rattle.connectors.specs.Named.{sixOrSeven, lower}
 
 -- ---- tests
@@ -83,16 +83,16 @@ unfolding least
 least-bits k h = same-at 10 (λ i. 978 / 2 ^ i % 2) least refl k h
 
 -- a class that names a block: from 1 to n
-pub names-least : (k : ℕ) → names k ≡ true → least k ≡ 1
-unfolding names least
+pub names-least : (k : ℕ) → namesBlock k ≡ true → least k ≡ 1
+unfolding namesBlock least
 names-least k e = go (eqb k 6) refl
   where
     go : (b : Bool) → eqb k 6 ≡ b → least k ≡ 1
     go true q = ap least (eqb-true k 6 q)
     go false q = ap least (eqb-true k 9 (simp q at e))
 
-pub names-greatest : (limits : Limits) (n k : ℕ) → names k ≡ true → greatest limits n k ≡ n
-unfolding names greatest
+pub names-greatest : (limits : Limits) (n k : ℕ) → namesBlock k ≡ true → greatest limits n k ≡ n
+unfolding namesBlock greatest
 names-greatest limits n k e = go (eqb k 6) refl
   where
     go : (b : Bool) → eqb k 6 ≡ b → greatest limits n k ≡ n
@@ -100,8 +100,8 @@ names-greatest limits n k e = go (eqb k 6) refl
     go false q = ap (greatest limits n) (eqb-true k 9 (simp q at e))
 
 -- a class without numbers
-pub greatest-other : (limits : Limits) (n k : ℕ) → names k ≡ false → (k ≡ 1 → ⊥) → (k ≡ 4 → ⊥) → (k ≡ 7 → ⊥) → (k ≡ 8 → ⊥) → greatest limits n k ≡ 0
-unfolding names greatest
+pub greatest-other : (limits : Limits) (n k : ℕ) → namesBlock k ≡ false → (k ≡ 1 → ⊥) → (k ≡ 4 → ⊥) → (k ≡ 7 → ⊥) → (k ≡ 8 → ⊥) → greatest limits n k ≡ 0
+unfolding namesBlock greatest
 greatest-other limits n zero e i m a am = refl
 greatest-other limits n (suc zero) e i m a am = absurd (i refl)
 greatest-other limits n (suc (suc zero)) e i m a am = refl

@@ -76,8 +76,8 @@ unfoldable pub greatest : Limits → ℕ → ℕ → ℕ
 greatest limits n k = getD (0 ∷ 24 ∷ 0 ∷ 0 ∷ limits .m ∷ 0 ∷ n ∷ 8 ∷ limits .am ∷ n ∷ []) k 0
 
 -- it names a block
-unfoldable pub names : ℕ → Bool
-names k = eqb k 6 || eqb k 9
+unfoldable pub namesBlock : ℕ → Bool
+namesBlock k = eqb k 6 || eqb k 9
 
 -- and an analog one
 abbrev pub namesAnalog : ℕ → Bool
@@ -96,7 +96,7 @@ misfits limits spot n c =
 -- number of the block whose input it is, and n + 1 in a row; `sorts` tells of the blocks before, from 1, which are analog
 unfoldable pub wrongSort : ℕ → ℕ → List Bool → Connector → Bool
 wrongSort spot own sorts c =
-    (names (classOf c) && ltb (c .number) own)
+    (namesBlock (classOf c) && ltb (c .number) own)
     && (not (eqb spot unknownRow) && not (Bool·beq (getD (false ∷ sorts) (c .number) false) (namesAnalog (classOf c))))
 
 unfoldable pub wrong : Limits → ℕ → ℕ → ℕ → List Bool → Connector → Bool
@@ -105,7 +105,7 @@ wrong limits spot own n sorts c = misfits limits spot n c || wrongSort spot own 
 -- ---- 7: "own or later block named"
 
 unfoldable pub later : ℕ → Connector → Bool
-later own c = names (classOf c) && leb own (c .number)
+later own c = namesBlock (classOf c) && leb own (c .number)
 
 -- ---- some connector of a list
 

@@ -4,7 +4,7 @@ ghost use mathlib.Core.Bool.{false, not, _&&_, _||_};
 ghost use Prim.Native.Nat.{ℕ, _+_, _*_, _≤_, _<_};
 ghost use lib.ListN.{length};
 ghost use lib.Dec.{leb, ltb};
-ghost use Rattle.connectors.specs.Connectors.{member, takes, inverts, least, greatest, names, connectorAt, connectorsAt, wrong, later, anyOf};
+ghost use Rattle.connectors.specs.Connectors.{member, takes, inverts, least, greatest, namesBlock, connectorAt, connectorsAt, wrong, later, anyOf};
 ghost use Rattle.connectors.specs.Named.{sixOrSeven, namedNumber, lower as lowerOf};
 use refusals::Limits;
 
@@ -42,7 +42,7 @@ fn wrongly_inverted(byte: usize, class: usize) -> bool
 
 // The greatest number of a class that names no block.
 fn greatest_of(limits: Limits, class: usize) -> usize
-    requires { ⌜ names class ≡ false ⌝ }
+    requires { ⌜ namesBlock class ≡ false ⌝ }
     ensures { λ r. ⌜ ((n : ℕ) → r ≡ greatest limits n class) ⌝ }
 {
     if class == 1 {
@@ -65,7 +65,7 @@ const LEAST: usize = 0b1111010010;
 
 // Whether a number is out of the range of a class that names no block.
 fn out_of_range(limits: Limits, class: usize, number: usize) -> bool
-    requires { ⌜ (class < 10) × (names class ≡ false) ⌝ }
+    requires { ⌜ (class < 10) × (namesBlock class ≡ false) ⌝ }
     ensures { λ r. ⌜ ((n : ℕ) → r ≡ (ltb number (least class) || ltb (greatest limits n class) number)) ⌝ }
 {
     if number < (LEAST >> class) % 2 {
@@ -76,7 +76,7 @@ fn out_of_range(limits: Limits, class: usize, number: usize) -> bool
 
 // Whether a class names a block.
 fn names_block(class: usize) -> bool
-    ensures { λ r. ⌜ r ≡ names class ⌝ }
+    ensures { λ r. ⌜ r ≡ namesBlock class ⌝ }
 {
     (class == 6) | (class == 9)
 }

@@ -13,7 +13,7 @@ use Rattle.words.proofs.Bounds.{and-true}
 use Rattle.kinds.specs.Kinds.{kindOf, allowed}
 use Rattle.refusals.specs.Faults.{lowest}
 use Rattle.refusals.specs.declared.Limits.{Limits}
-use Rattle.connectors.specs.Connectors.{Connector, classOf, names, namesAnalog, unknownRow, digitalInput, analogInput, connectorAt, misfits, wrongSort, wrong, anyOf}
+use Rattle.connectors.specs.Connectors.{Connector, classOf, namesBlock, namesAnalog, unknownRow, digitalInput, analogInput, connectorAt, misfits, wrongSort, wrong, anyOf}
 use Rattle.blockfield.specs.BlockField.{kindAt, optionAt, digitalsAt, analogsAt, parametersAt, wrongLength, wrongKind, wrongInputs, laterInputs, shiftRegister, blockFaults}
 use Rattle.fields.specs.Fields.{spotOf, unknown, classAt, numberIn, rowFaults}
 
@@ -44,10 +44,10 @@ module _ (limits : Limits) (count n : ℕ) (sorts : List Bool) where
   wrong-agree spot c =
       let k = classOf c in
       ap (λ (b : Bool). misfits limits spot n c || b)
-      (and-agree (names k && ltb (c .number) (count + 1))
+      (and-agree (namesBlock k && ltb (c .number) (count + 1))
       (not (eqb spot unknownRow) && not (Bool·beq (getD (false ∷ sorts) (c .number) false) (namesAnalog k)))
       (not (eqb spot unknownRow) && not (Bool·beq (getD (false ∷ take count sorts) (c .number) false) (namesAnalog k)))
-      (λ e. ap (λ (x : Bool). not (eqb spot unknownRow) && not (Bool·beq x (namesAnalog k))) (sort-agree (c .number) (and-true (names k) _ e .1))))
+      (λ e. ap (λ (x : Bool). not (eqb spot unknownRow) && not (Bool·beq x (namesAnalog k))) (sort-agree (c .number) (and-true (namesBlock k) _ e .1))))
 
   inputs-agree : (digitals analogs : List Connector) → wrongInputs limits (count + 1) n sorts digitals analogs ≡ wrongInputs limits (count + 1) n (take count sorts) digitals analogs
   unfolding wrongInputs

@@ -9,7 +9,7 @@ use borrow.Author.Tests.{ltb-false, eqb-false, lt-leb}
 use Rattle.refusals.proofs.Tests.{or-false}
 use Rattle.refusals.specs.Modest.{Modest}
 use Rattle.refusals.specs.declared.Limits.{Limits}
-use Rattle.connectors.specs.Connectors.{Connector, classOf, isInverted, member, takes, inverts, least, greatest, names, misfits, wrongSort, wrong, later, connectorAt}
+use Rattle.connectors.specs.Connectors.{Connector, classOf, isInverted, member, takes, inverts, least, greatest, namesBlock, misfits, wrongSort, wrong, later, connectorAt}
 use Rattle.connectors.specs.Named.{sixOrSeven}
 use Rattle.connectors.proofs.Laws.{same-at, names-greatest, none-wrong, is-wrong}
 use Rattle.fields.specs.Fields.{limitOf, spotOf, unknown, classAt}
@@ -89,9 +89,9 @@ spot-below (suc (suc (suc (suc (suc k))))) = omega arith
 -- what is not above n is not later than n + 1
 pub none-later : (limits : Limits) (spot own n : ℕ) (sorts : List Bool) (c : Connector) → n < own → wrong limits spot own n sorts c ≡ false → later own c ≡ false
 unfolding wrong misfits later
-none-later limits spot own n sorts c h e = go (names (classOf c)) refl
+none-later limits spot own n sorts c h e = go (namesBlock (classOf c)) refl
   where
-    go : (b : Bool) → names (classOf c) ≡ b → (b && leb own (c .number)) ≡ false
+    go : (b : Bool) → namesBlock (classOf c) ≡ b → (b && leb own (c .number)) ≡ false
     go false q = refl
     go true q =
         let k = classOf c in

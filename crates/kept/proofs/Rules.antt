@@ -17,7 +17,7 @@ use Rattle.kinds.specs.Kinds.{Range, In, _to_, kindOf, parameter, settingsFit, 
 use Rattle.kinds.proofs.Rows.{small-kind}
 use Rattle.kinds.proofs.Allowed.{param-in}
 use Rattle.refusals.specs.declared.Limits.{Limits}
-use Rattle.connectors.specs.Connectors.{Connector, classOf, isInverted, member, takes, inverts, least, names, unknownRow, misfits, wrongSort, wrong, later, anyOf}
+use Rattle.connectors.specs.Connectors.{Connector, classOf, isInverted, member, takes, inverts, least, namesBlock, unknownRow, misfits, wrongSort, wrong, later, anyOf}
 use Rattle.blockfield.specs.BlockField.{shiftRegister}
 use Rattle.fields.specs.Fields.{limitOf, spotOf}
 use Rattle.fields.proofs.Laws.{Known}
@@ -49,7 +49,7 @@ module _ (limits : Limits) (spot n : ℕ) (before : List Block) (c : Connector) 
       }
 
   module _ (known-spot : eqb spot unknownRow ≡ false) where
-    pub refers : is-wrong ≡ false → (names (classOf c) ≡ true → c .number ≤ length before) → Refers before c
+    pub refers : is-wrong ≡ false → (namesBlock (classOf c) ≡ true → c .number ≤ length before) → Refers before c
     unfolding wrong wrongSort
     refers e there =
         record {
@@ -58,7 +58,7 @@ module _ (limits : Limits) (spot n : ℕ) (before : List Block) (c : Connector) 
               λ h.
               let l = there h in
               let less : c .number < length before + 1 = omega arith in
-              let named : (names (classOf c) && ltb (c .number) (length before + 1)) ≡ true = and-iff _ _ .1 (h, lt-ltb _ _ less) in
+              let named : (namesBlock (classOf c) && ltb (c .number) (length before + 1)) ≡ true = and-iff _ _ .1 (h, lt-ltb _ _ less) in
               let known : not (eqb spot unknownRow) ≡ true = ap not known-spot in
               let sort = or-false (misfits limits spot n c) _ .0 e .1 in
               same-bit _ _ .0 (not-is _ .0 (and-false _ _ .0 (and-false _ _ .0 sort named) known));
@@ -76,16 +76,16 @@ module _ (limits : Limits) (spot n : ℕ) (before : List Block) (c : Connector) 
             or-false (ltb (c .number) (least k)) _ .1 (le-ltb _ _ (a .low), le-ltb _ _ (a .high)),
           ),
         ),
-        and-false (names k && ltb (c .number) (length before + 1)) _ .1
+        and-false (namesBlock k && ltb (c .number) (length before + 1)) _ .1
             (λ h. and-false (not (eqb spot unknownRow)) _ .1 (λ p. not-is _ .1 (same-bit _ _ .1 (r .right-sort (and-iff _ _ .0 h .0))))),
       )
 
 -- no own or later block is named
-pub not-later : (count : ℕ) (c : Connector) → (later (count + 1) c ≡ false) ↔ (names (classOf c) ≡ true → c .number ≤ count)
+pub not-later : (count : ℕ) (c : Connector) → (later (count + 1) c ≡ false) ↔ (namesBlock (classOf c) ≡ true → c .number ≤ count)
 unfolding later
 not-later count c = (
-  λ e h. let l : c .number < count + 1 = leb-false _ _ (and-false (names (classOf c)) _ .0 e h) in omega arith,
-  λ f. and-false (names (classOf c)) _ .1 (λ h. let l = f h in let m : c .number < count + 1 = omega arith in lt-leb _ _ m),
+  λ e h. let l : c .number < count + 1 = leb-false _ _ (and-false (namesBlock (classOf c)) _ .0 e h) in omega arith,
+  λ f. and-false (namesBlock (classOf c)) _ .1 (λ h. let l = f h in let m : c .number < count + 1 = omega arith in lt-leb _ _ m),
 )
 
 pub none-of : (f : Connector → Bool) (l : List Connector) → (anyOf f l ≡ false) ↔ All (λ c. f c ≡ false) l

@@ -14,7 +14,7 @@ use Rattle.words.specs.Signed.{over}
 use Rattle.kinds.specs.Time.{longest}
 use Rattle.kinds.specs.Kinds.{Kind, In, _to_, kinds, kindOf, parameter}
 use Rattle.refusals.specs.declared.Limits.{Limits}
-use Rattle.connectors.specs.Connectors.{Connector, classOf, member, takes, inverts, least, greatest, names, namesAnalog, digitalInput, analogInput}
+use Rattle.connectors.specs.Connectors.{Connector, classOf, member, takes, inverts, least, greatest, namesBlock, namesAnalog, digitalInput, analogInput}
 use Rattle.blockfield.specs.BlockField.{mostOption, shiftRegister}
 use Rattle.fields.specs.Fields.{limitOf, spotOf}
 use Rattle.decoding.specs.Decoded.{Block, Row, Circuit, sortsOf, indexOf}
@@ -59,8 +59,8 @@ pub record Allowed (limits : Limits) (spot n : ℕ) (c : Connector) : Type 0 whe
 
 -- a connector that names a block names one of these, of the sort that its class says
 pub record Refers (blocks : List Block) (c : Connector) : Type 0 where
-  pub there : names (classOf c) ≡ true → c .number ≤ length blocks
-  pub right-sort : names (classOf c) ≡ true → getD (false ∷ sortsOf blocks) (c .number) false ≡ namesAnalog (classOf c)
+  pub there : namesBlock (classOf c) ≡ true → c .number ≤ length blocks
+  pub right-sort : namesBlock (classOf c) ≡ true → getD (false ∷ sortsOf blocks) (c .number) false ≡ namesAnalog (classOf c)
 
 -- ---- parameters
 
