@@ -16,7 +16,7 @@ pub record Connector : Type 0 where
 abbrev pub connectorAt : List ℕ → ℕ → Connector
 connectorAt s at = record { class = getD s at 0; number = numberAt 2 s (at + 1) }
 
--- k of them, from a place on
+-- k of them, one behind the other
 unfoldable pub connectorsAt : List ℕ → ℕ → ℕ → List Connector
 connectorsAt s at zero = []
 connectorsAt s at (suc k) = connectorAt s at ∷ connectorsAt s (at + 3) k
@@ -28,11 +28,31 @@ isInverted c = leb 128 (c .class)
 abbrev pub classOf : Connector → ℕ
 classOf c = c .class % 128
 
--- ---- the classes: 0 unused, 1 I, 2 lo, 3 hi, 4 M, 6 digital block, 7 analog input, 8 AM, 9 analog block
+-- ---- the classes
+
+-- "0 unused (number 0), 1 input I 1..24, 2 lo (0), 3 hi (0), 4 flag M 1..64, 6 digital block, 7 analog input 1..8, 8 analog flag AM
+-- 1..64, 9 analog block": by class, from 0, the least and the greatest number, in a circuit of n blocks
+unfoldable pub least : ℕ → ℕ
+least k = getD (0 ∷ 1 ∷ 0 ∷ 0 ∷ 1 ∷ 0 ∷ 1 ∷ 1 ∷ 1 ∷ 1 ∷ []) k 0
+
+unfoldable pub greatest : Limits → ℕ → ℕ → ℕ
+greatest limits n k = getD (0 ∷ 24 ∷ 0 ∷ 0 ∷ limits .m ∷ 0 ∷ n ∷ 8 ∷ limits .am ∷ n ∷ []) k 0
+
+-- it names a block
+unfoldable pub namesBlock : ℕ → Bool
+namesBlock k = eqb k 6 || eqb k 9
+
+-- and an analog one
+abbrev pub namesAnalog : ℕ → Bool
+namesAnalog k = eqb k 9
 
 unfoldable pub member : ℕ → List ℕ → Bool
 member x [] = false
 member x (y ∷ l) = eqb x y || member x l
+
+-- "allowed on 1, 2, 3, 4, 6 only"
+unfoldable pub inverts : ℕ → Bool
+inverts k = member k (1 ∷ 2 ∷ 3 ∷ 4 ∷ 6 ∷ [])
 
 -- a connector's spot: in a digital or an analog input, in a row of a digital, an analog or an unknown destination
 abbrev pub digitalInput : ℕ
@@ -55,33 +75,14 @@ unknownRow = 4
 unfoldable pub takes : ℕ → List ℕ
 takes spot =
     getD
-    ((0 ∷ 1 ∷ 2 ∷ 3 ∷ 4 ∷ 6 ∷ [])
-    ∷ (7 ∷ 8 ∷ 9 ∷ [])
-    ∷ (1 ∷ 2 ∷ 3 ∷ 4 ∷ 6 ∷ [])
-    ∷ (7 ∷ 8 ∷ 9 ∷ [])
-    ∷ (1 ∷ 2 ∷ 3 ∷ 4 ∷ 6 ∷ 7 ∷ 8 ∷ 9 ∷ [])
+    ((0 ∷ 1 ∷ 2 ∷ 3 ∷ 4 ∷ 6 ∷ [])  -- digital input
+    ∷ (7 ∷ 8 ∷ 9 ∷ [])  -- analog input
+    ∷ (1 ∷ 2 ∷ 3 ∷ 4 ∷ 6 ∷ [])  -- row of a digital destination
+    ∷ (7 ∷ 8 ∷ 9 ∷ [])  -- row of an analog destination
+    ∷ (1 ∷ 2 ∷ 3 ∷ 4 ∷ 6 ∷ 7 ∷ 8 ∷ 9 ∷ [])  -- row of unknown class
     ∷ [])
     spot
     []
-
--- "allowed on 1, 2, 3, 4, 6 only"
-unfoldable pub inverts : ℕ → Bool
-inverts k = member k (1 ∷ 2 ∷ 3 ∷ 4 ∷ 6 ∷ [])
-
--- the least and the greatest number of a class, in a circuit of n blocks
-unfoldable pub least : ℕ → ℕ
-least k = getD (0 ∷ 1 ∷ 0 ∷ 0 ∷ 1 ∷ 0 ∷ 1 ∷ 1 ∷ 1 ∷ 1 ∷ []) k 0
-
-unfoldable pub greatest : Limits → ℕ → ℕ → ℕ
-greatest limits n k = getD (0 ∷ 24 ∷ 0 ∷ 0 ∷ limits .m ∷ 0 ∷ n ∷ 8 ∷ limits .am ∷ n ∷ []) k 0
-
--- it names a block
-unfoldable pub namesBlock : ℕ → Bool
-namesBlock k = eqb k 6 || eqb k 9
-
--- and an analog one
-abbrev pub namesAnalog : ℕ → Bool
-namesAnalog k = eqb k 9
 
 -- ---- 6: "connector not allowed there"
 
@@ -99,6 +100,7 @@ wrongSort spot own sorts c =
     (namesBlock (classOf c) && ltb (c .number) own)
     && (not (eqb spot unknownRow) && not (Bool·beq (getD (false ∷ sorts) (c .number) false) (namesAnalog (classOf c))))
 
+-- 6: it misfits, or it names a block of the wrong sort
 unfoldable pub wrong : Limits → ℕ → ℕ → ℕ → List Bool → Connector → Bool
 wrong limits spot own n sorts c = misfits limits spot n c || wrongSort spot own sorts c
 
