@@ -10,7 +10,7 @@ use Rattle.refusals.specs.Faults.{Fault, _when_}
 use Rattle.refusals.specs.declared.Limits.{Limits}
 use Rattle.blockfield.specs.BlockField.{kindAt, digitalsAt, analogsAt, parametersAt, signedAt, indexFrom, wrongInputs, laterInputs}
 
--- its mark, from 0
+-- a shift register's index as a mark, from 0
 abbrev pub indexMark : List ℕ → ℕ → ℕ
 indexMark s at = over (signedAt s (indexFrom at)) - 1
 
