@@ -18,6 +18,7 @@ use Rattle.fields.specs.Fields.{headerFaults, labelFaults, rowFaults, endFaults
 
 -- ---- what a circuit is made of
 
+-- "kind, options, connectors, parameters"; and its label
 pub record Block : Type 0 where
   pub kind : ℕ
   pub option : ℕ
@@ -25,6 +26,7 @@ pub record Block : Type 0 where
   pub parameters : List ℤ
   pub label : Option (List ℕ)
 
+-- "destination class and number (a byte each), one connector"
 pub record Row : Type 0 where
   pub class : ℕ
   pub number : ℕ
@@ -32,6 +34,7 @@ pub record Row : Type 0 where
 
 pub record Circuit : Type 0 where
   pub version : ℕ
+  -- what the header says
   pub n : ℕ
   pub blocks : List Block
   pub rows : List Row
@@ -58,19 +61,20 @@ isAnalogBlock b = isAnalog (kindOf (b .kind) .output)
 abbrev pub sortsOf : List Block → List Bool
 sortsOf blocks = map isAnalogBlock blocks
 
--- a shift register's index
+-- a shift register's index, its first parameter
 abbrev pub indexOf : Block → ℤ
 indexOf b = parameter (b .parameters) 0
 
+-- two parameters are one number
 abbrev pub same : ℤ → ℤ → Bool
 same x y = leZ x y && leZ y x
 
--- a shift register among the blocks has the index
+-- a shift register among the blocks has the index. 10: "shift register index used twice"
 unfoldable pub indexUsed : ℤ → List Block → Bool
 indexUsed x [] = false
 indexUsed x (b ∷ l) = (eqb (b .kind) shiftRegister && same (indexOf b) x) || indexUsed x l
 
--- a row has the destination
+-- a row has the destination. 9: "destination .. used twice"
 unfoldable pub destinationUsed : ℕ → ℕ → List Row → Bool
 destinationUsed class number [] = false
 destinationUsed class number (r ∷ l) = (eqb (r .class) class && eqb (r .number) number) || destinationUsed class number l
@@ -133,10 +137,12 @@ labelled x [] = []
 labelled x (b ∷ []) = withLabel x b ∷ []
 labelled x (b ∷ c ∷ l) = b ∷ labelled x (c ∷ l)
 
+-- "version (1), number of blocks n in two bytes"
 abbrev pub headerTaken : List ℕ → ℕ → State → State
 headerTaken s at st =
     record { stage = amongBlocks; version = getD s (at + 3) 0; n = numberAt 2 s (at + 4); blocks = st .blocks; rows = st .rows }
 
+-- "Blocks are numbered 1, 2, .. in file order"
 abbrev pub blockTaken : List ℕ → ℕ → State → State
 blockTaken s at st =
     record { stage = afterBlock; version = st .version; n = st .n; blocks = st .blocks ++ (blockAt s at ∷ []); rows = st .rows }

@@ -22,7 +22,7 @@ use Rattle.decoding.specs.declared.Step.{Step}
 abbrev pub bare : Block → Block
 bare b = record { kind = b .kind; option = b .option; inputs = b .inputs; parameters = b .parameters; label = none }
 
--- k rows, one behind the other, from a place on
+-- k rows, one behind the other
 unfoldable pub rowsAt : List ℕ → ℕ → ℕ → List Row
 rowsAt s at zero = []
 rowsAt s at (suc k) = rowAt s at ∷ rowsAt s (at + 8) k
