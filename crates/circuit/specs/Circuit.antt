@@ -39,6 +39,7 @@ isCut s at = ltb (length s) (at + 3) || ltb (length s) (nextAt s at)
 unfoldable pub fieldFaults : Limits → List ℕ → ℕ → State → List Fault
 fieldFaults limits s at st = (1 when isCut s at) ∷ tagFaults limits s at st
 
+-- "with the lowest number that holds for it"
 unfoldable pub fieldNumber : Limits → List ℕ → ℕ → State → ℕ
 fieldNumber limits s at st = lowest (fieldFaults limits s at st)
 

@@ -1,4 +1,4 @@
--- Document 01, "Circuit bytes": what a circuit is made of; what holds for each field of it, and what the field adds.
+-- Document 01, "Circuit bytes": fields; what a circuit is made of; what holds for each field of it, and what the field adds.
 use Prim.Native.Nat.{ℕ, _+_}
 use mathlib.Core.Bool.{Bool, false, _&&_, _||_}
 use mathlib.Core.List.{List, [], _∷_, _++_, map}
@@ -15,6 +15,18 @@ use Rattle.refusals.specs.declared.Limits.{Limits}
 use Rattle.connectors.specs.Connectors.{Connector, connectorAt}
 use Rattle.blockfield.specs.BlockField.{kindAt, optionAt, digitalsAt, analogsAt, parametersAt, signedAt, shiftRegister, indexFrom, blockFaults}
 use Rattle.fields.specs.Fields.{headerFaults, labelFaults, rowFaults, endFaults, classAt, numberIn}
+
+-- ---- a field: "a one-byte tag, a two-byte length .., content"
+
+abbrev pub sizeAt : List ℕ → ℕ → ℕ
+sizeAt s at = numberAt 2 s (at + 1)
+
+abbrev pub contentAt : List ℕ → ℕ → List ℕ
+contentAt s at = take (sizeAt s at) (drop (at + 3) s)
+
+-- where the next one begins
+abbrev pub nextAt : List ℕ → ℕ → ℕ
+nextAt s at = at + 3 + sizeAt s at
 
 -- ---- what a circuit is made of
 
@@ -48,6 +60,7 @@ pub record State : Type 0 where
   pub blocks : List Block
   pub rows : List Row
 
+-- before the first field
 abbrev pub nothing : State
 nothing = record { stage = opening; version = 0; n = 0; blocks = []; rows = [] }
 
@@ -78,18 +91,6 @@ indexUsed x (b ∷ l) = (eqb (b .kind) shiftRegister && same (indexOf b) x) || i
 unfoldable pub destinationUsed : ℕ → ℕ → List Row → Bool
 destinationUsed class number [] = false
 destinationUsed class number (r ∷ l) = (eqb (r .class) class && eqb (r .number) number) || destinationUsed class number l
-
--- ---- a field: "a one-byte tag, a two-byte length .., content"
-
-abbrev pub sizeAt : List ℕ → ℕ → ℕ
-sizeAt s at = numberAt 2 s (at + 1)
-
-abbrev pub contentAt : List ℕ → ℕ → List ℕ
-contentAt s at = take (sizeAt s at) (drop (at + 3) s)
-
--- where the next one begins
-abbrev pub nextAt : List ℕ → ℕ → ℕ
-nextAt s at = at + 3 + sizeAt s at
 
 -- ---- what holds for a field of `size` bytes of content, given what the earlier ones decoded to
 

@@ -52,6 +52,7 @@ pub record Sound (head : Head) (at : ℕ) : Type 0 where
   pub along : (head .stage ≡ ended → ⊥) → at ≡ head .start + 8 * head .rows
   pub closed : head .stage ≡ ended → at ≡ head .start + 8 * head .rows + 3
 
+-- what is carried stands for a state
 pub record Holds (limits : Limits) (s : List ℕ) (seen : Seen) (st : State) : Type 0 where
   pub stage : seen .head .stage ≡ st .stage
   pub n : seen .head .n ≡ st .n
