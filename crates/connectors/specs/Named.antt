@@ -1,4 +1,4 @@
--- What the functions below the judging of a connector answer. Not part of what a reader has to believe.
+-- What the functions that judge a connector answer. Not part of what a reader has to believe.
 use Prim.Native.Nat.{ℕ}
 use mathlib.Core.Bool.{Bool, Bool·beq, false, not, _&&_, _||_, cond}
 use mathlib.Core.List.{List, [], _∷_}
