@@ -18,10 +18,11 @@ use Rattle.kinds.proofs.Rows.{each-kind, small-kind}
 use Rattle.refusals.specs.Stages.{opening, amongRows}
 use Rattle.refusals.specs.Faults.{lowest}
 use Rattle.refusals.specs.declared.Limits.{Limits}
-use Rattle.connectors.specs.Connectors.{sixOrSeven, wrong}
+use Rattle.connectors.specs.Connectors.{wrong}
+use Rattle.connectors.specs.Named.{sixOrSeven}
 use Rattle.connectors.proofs.Laws.{none-wrong, none-later}
-use Rattle.blockfield.specs.BlockField.{kindAt, optionAt, digitalsAt, analogsAt, parametersFrom, parametersAt, signedAt, signedsAt, wrongLength, mostOption, wrongKind, wrongInputs, laterInputs, indexFrom, shiftRegister, blockFaults}
-use Rattle.blockfield.specs.Marked.{fourOf, knownFaults}
+use Rattle.blockfield.specs.BlockField.{kindAt, optionAt, digitalsAt, analogsAt, parametersFrom, parametersAt, fourOf, signedAt, signedsAt, wrongLength, mostOption, wrongKind, wrongInputs, laterInputs, indexFrom, shiftRegister, blockFaults}
+use Rattle.blockfield.specs.Marked.{knownFaults}
 
 -- ---- kinds
 

@@ -8,7 +8,7 @@ use lib.IntN.{ℤ}
 use mir.Syntax.{w32}
 use mir.Val.{toZ}
 use Rattle.words.specs.Bytes.{numberAt}
-use Rattle.kinds.specs.Kinds.{Kind, kindOf, known, contentLength, allowed}
+use Rattle.kinds.specs.Kinds.{Kind, kindOf, known, contentLength, allowed, parameter}
 use Rattle.refusals.specs.Faults.{Fault, _when_}
 use Rattle.refusals.specs.Stages.{opening, amongRows}
 use Rattle.refusals.specs.declared.Limits.{Limits}
@@ -37,7 +37,7 @@ parametersFrom at k = at + 5 + 3 * (k .digitals + k .analogs)
 abbrev pub signedAt : List ℕ → ℕ → ℤ
 signedAt s at = toZ w32 (numberAt 4 s at)
 
--- k of them, from a place on
+-- k of them, one behind the other
 unfoldable pub signedsAt : List ℕ → ℕ → ℕ → List ℤ
 signedsAt s at zero = []
 signedsAt s at (suc k) = signedAt s at ∷ signedsAt s (at + 4) k
@@ -45,10 +45,15 @@ signedsAt s at (suc k) = signedAt s at ∷ signedsAt s (at + 4) k
 abbrev pub parametersAt : List ℕ → ℕ → Kind → List ℤ
 parametersAt s at k = signedsAt s (parametersFrom at k) (length (k .parameters))
 
--- a shift register's index, its first parameter
+-- four of them, as the rules take them; 0 where there is none
+abbrev pub fourOf : List ℤ → List ℤ
+fourOf p = parameter p 0 ∷ parameter p 1 ∷ parameter p 2 ∷ parameter p 3 ∷ []
+
+-- kind 12
 abbrev pub shiftRegister : ℕ
 shiftRegister = 12
 
+-- where a shift register's index begins: it is the first parameter
 abbrev pub indexFrom : ℕ → ℕ
 indexFrom at = parametersFrom at (kindOf shiftRegister)
 
@@ -75,18 +80,18 @@ unfoldable pub laterInputs : ℕ → List Connector → List Connector → Bool
 laterInputs own digitals analogs = anyOf (later own) digitals || anyOf (later own) analogs
 
 -- what holds for a block field of `size` bytes of content: n from the header; `count` blocks before it, of these `sorts`; `used`: a
--- shift register before it has the index. 10: "Two blocks may not share an index"
+-- shift register before it has the index ("Two blocks may not share an index")
 unfoldable pub blockFaults : Limits → List ℕ → ℕ → ℕ → ℕ → ℕ → ℕ → List Bool → Bool → List Fault
 blockFaults limits s at size stage n count sorts used =
     let kind = kindAt s at in
     let digitals = digitalsAt s at (kindOf kind) in
     let analogs = analogsAt s at (kindOf kind) in
-    (2 when (eqb stage opening || eqb stage amongRows)
-    ∷ 2 when wrongLength kind size
-    ∷ 4 when leb n count
-    ∷ 5 when wrongKind kind (optionAt s at)
-    ∷ 6 when wrongInputs limits (count + 1) n sorts digitals analogs
-    ∷ 7 when laterInputs (count + 1) digitals analogs
-    ∷ 8 when not (allowed kind (parametersAt s at (kindOf kind)))
-    ∷ 10 when (eqb kind shiftRegister && used)
+    (2 when (eqb stage opening || eqb stage amongRows)  -- "out of place"
+    ∷ 2 when wrongLength kind size  -- "content length wrong"
+    ∷ 4 when leb n count  -- "a block too many"
+    ∷ 5 when wrongKind kind (optionAt s at)  -- "kind unknown .., or option not allowed"
+    ∷ 6 when wrongInputs limits (count + 1) n sorts digitals analogs  -- "connector not allowed there"
+    ∷ 7 when laterInputs (count + 1) digitals analogs  -- "own or later block named"
+    ∷ 8 when not (allowed kind (parametersAt s at (kindOf kind)))  -- "parameter out of range"
+    ∷ 10 when (eqb kind shiftRegister && used)  -- "shift register index used twice"
     ∷ [])

@@ -4,20 +4,15 @@ use mathlib.Core.Path.{_≡_}
 use mathlib.Core.Bool.{Bool, true, not}
 use mathlib.Core.List.{List, [], _∷_}
 use lib.ListN.{length}
-use lib.IntN.{ℤ}
 use Rattle.words.specs.Signed.{over}
-use Rattle.kinds.specs.Kinds.{kindOf, known, contentLength, allowed, parameter}
+use Rattle.kinds.specs.Kinds.{kindOf, known, contentLength, allowed}
 use Rattle.refusals.specs.Faults.{Fault, _when_}
 use Rattle.refusals.specs.declared.Limits.{Limits}
 use Rattle.blockfield.specs.BlockField.{kindAt, digitalsAt, analogsAt, parametersAt, signedAt, indexFrom, wrongInputs, laterInputs}
 
--- its mark, from 0
+-- a shift register's index as a mark, from 0
 abbrev pub indexMark : List ℕ → ℕ → ℕ
 indexMark s at = over (signedAt s (indexFrom at)) - 1
-
--- four parameters, 0 where there is none
-abbrev pub fourOf : List ℤ → List ℤ
-fourOf p = parameter p 0 ∷ parameter p 1 ∷ parameter p 2 ∷ parameter p 3 ∷ []
 
 -- a block without a fault lies at a place
 pub record Lies (s : List ℕ) (at : ℕ) : Type 0 where

@@ -9,10 +9,10 @@ use lib.ListN.{length}
 use lib.IntN.{ℤ}
 use borrow.Author.Tests.{eqb-true, eqb-false, eq-eqb, ne-eqb, leb-true}
 use Rattle.words.proofs.Bounds.{and-true}
-use Rattle.refusals.specs.Faults.{Fault, rises, lowest}
+use Rattle.refusals.specs.Faults.{Fault, AtMost, rises, lowest}
 use Rattle.refusals.specs.Answers.{refusedAt}
 use Rattle.refusals.proofs.Tests.{or-false, not-is, None, none-holds}
-use Rattle.refusals.proofs.Laws.{AtMost, least-of-rising}
+use Rattle.refusals.proofs.Laws.{least-of-rising}
 use Rattle.decoding.specs.Decoded.{Circuit}
 use Rattle.circuit.specs.Circuit.{verdict, accepted}
 use Rattle.record.specs.Places.{sizeOf}

@@ -5,9 +5,9 @@ use Prim.Native.Nat.{ℕ}
 use Rattle.words.specs.Bytes.{numberAt}
 use Rattle.kinds.specs.Kinds.{kinds, kindOf, known, allowed}
 use Rattle.refusals.specs.Answers.{refusedAt, acceptedWith}
-use Rattle.connectors.specs.Connectors.{connectorsAt, member, takes, inverts, least, greatest, names, misfits, wrongSort, wrong, later, anyOf}
+use Rattle.connectors.specs.Connectors.{connectorsAt, member, takes, inverts, least, greatest, namesBlock, misfits, wrongSort, wrong, later, anyOf}
 use Rattle.blockfield.specs.BlockField.{signedsAt, wrongLength, wrongKind, wrongInputs, laterInputs, blockFaults}
-use Rattle.fields.specs.Fields.{headerFaults, labelFaults, rowFaults, endFaults, limitOf, placeOf}
+use Rattle.fields.specs.Fields.{headerFaults, labelFaults, rowFaults, endFaults, limitOf, spotOf}
 use Rattle.decoding.specs.Decoded.{indexUsed, destinationUsed}
 use Rattle.circuit.specs.Circuit.{byTag, tagFaults, fieldFaults, fieldNumber, taken, closing, walk, verdictAt, answerTo, answerAt, answerOf}
 
@@ -33,5 +33,5 @@ pub record CheckCases : Type 0 where
   pub one-more : answerOf (0x01 ∷ 0 ∷ 3 ∷ 1 ∷ 1 ∷ 145 ∷ 0x7F ∷ 0 ∷ 0 ∷ []) ≡ refusedAt 4 0
 
 pub check-cases : CheckCases
-unfolding answerAt answerTo verdictAt walk closing taken fieldNumber fieldFaults tagFaults byTag headerFaults blockFaults labelFaults rowFaults endFaults numberAt destinationUsed indexUsed limitOf placeOf wrongLength wrongKind known kindOf kinds allowed wrongInputs laterInputs anyOf wrong misfits wrongSort later connectorsAt signedsAt member takes inverts least greatest names
+unfolding answerAt answerTo verdictAt walk closing taken fieldNumber fieldFaults tagFaults byTag headerFaults blockFaults labelFaults rowFaults endFaults numberAt destinationUsed indexUsed limitOf spotOf wrongLength wrongKind known kindOf kinds allowed wrongInputs laterInputs anyOf wrong misfits wrongSort later connectorsAt signedsAt member takes inverts least greatest namesBlock
 check-cases = record { empty = refl; accepted = refl; own = refl; above = refl; four-hundred = refl; one-more = refl }

@@ -4,9 +4,9 @@ use mathlib.Core.Bool.{true}
 use mathlib.Core.List.{List}
 use Prim.Native.Nat.{ℕ}
 use lib.ListN.{getD}
-use Rattle.refusals.specs.Faults.{Fault, lowest, rises}
+use Rattle.refusals.specs.Faults.{Fault, AtMost, rises}
 use Rattle.refusals.specs.declared.Limits.{Limits}
-use Rattle.refusals.proofs.Laws.{AtMost, least-of-rising}
+use Rattle.refusals.proofs.Laws.{least-of-rising}
 use Rattle.blockfield.specs.BlockField.{blockFaults}
 use Rattle.fields.specs.Fields.{headerFaults, labelFaults, rowFaults, endFaults}
 use Rattle.decoding.specs.Decoded.{State}

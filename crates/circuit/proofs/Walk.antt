@@ -9,7 +9,7 @@ use lib.ListN.{length, getD, take, replicate, getD-replicate, length-replicate}
 use borrow.Author.Tests.{lt-ltb, le-ltb, eq-eqb, ne-eqb, ltb-false}
 use Rattle.refusals.specs.Faults.{Fault, lowest, _when_}
 use Rattle.refusals.specs.Stages.{opening, ended}
-use Rattle.refusals.specs.Limited.{Modest}
+use Rattle.refusals.specs.Modest.{Modest}
 use Rattle.refusals.specs.Answers.{refusedAt, acceptedWith}
 use Rattle.refusals.specs.declared.Limits.{Limits}
 use Rattle.fields.specs.Marks.{mark}

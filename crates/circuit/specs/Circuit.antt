@@ -31,7 +31,7 @@ tagFaults limits s at st =
     (endIn (sizeAt s at) st)
     (2 when true ∷ [])
 
--- 1: "slice ends inside a field or before the end field"
+-- 1: "slice ends inside a field or before the end field". Where no byte is left, the field is cut at "the slice's length"
 abbrev pub isCut : List ℕ → ℕ → Bool
 isCut s at = ltb (length s) (at + 3) || ltb (length s) (nextAt s at)
 
@@ -39,6 +39,7 @@ isCut s at = ltb (length s) (at + 3) || ltb (length s) (nextAt s at)
 unfoldable pub fieldFaults : Limits → List ℕ → ℕ → State → List Fault
 fieldFaults limits s at st = (1 when isCut s at) ∷ tagFaults limits s at st
 
+-- "with the lowest number that holds for it"
 unfoldable pub fieldNumber : Limits → List ℕ → ℕ → State → ℕ
 fieldNumber limits s at st = lowest (fieldFaults limits s at st)
 
@@ -49,6 +50,7 @@ taken s at st =
 
 -- ---- the whole
 
+-- a refusal number and its place, or the circuit
 pub data Verdict : Type 0 where
   refused : ℕ → ℕ → Verdict
   accepted : Circuit → Verdict
@@ -57,8 +59,8 @@ pub data Verdict : Type 0 where
 unfoldable pub closing : List ℕ → ℕ → State → Verdict
 closing s at st = cond (ltb at (length s)) (refused 11 at) (accepted (circuitOf st))
 
--- the fields from a place on: "The first field with a fault is named". The first argument is more than the bytes that are left, and
--- only bounds the steps
+-- the fields from a place on: "The first field with a fault is named"; "Place is the field's first byte for 1 to 10". The first
+-- argument is more than the bytes that are left, and only bounds the steps: each field takes three bytes or more, so it is never used up
 unfoldable pub walk : ℕ → Limits → List ℕ → ℕ → State → Verdict
 walk zero limits s at st = refused 1 at
 walk (suc f) limits s at st =

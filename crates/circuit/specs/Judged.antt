@@ -30,6 +30,7 @@ pub record Accepts (limits : Limits) (s : List ℕ) (head : Head) (offsets : Lis
   pub rows-there : rowsAt s (head .start) (head .rows) ≡ circuit .rows
   pub rows-end : head .start + 8 * head .rows + 3 ≡ length s
 
+-- the verdict, and of an accepted circuit where its blocks and rows stand
 pub record Says (limits : Limits) (s : List ℕ) (r : Outcome) (offsets : List ℕ) : Type 0 where
   pub refuses : (r .number ≡ 0 → ⊥) → verdictAt limits s ≡ refused (r .number) (r .place)
   pub accepts : r .number ≡ 0 → Accepts limits s (r .head) offsets

@@ -4,7 +4,7 @@ ghost use mathlib.Core.Bool.{false};
 ghost use Prim.Native.Nat.{_≤_};
 ghost use lib.ListN.{length, replicate};
 ghost use Rattle.kinds.specs.Table.{kindsTable};
-ghost use Rattle.refusals.specs.Limited.{Modest};
+ghost use Rattle.refusals.specs.Modest.{Modest};
 ghost use Rattle.decoding.specs.Held.{Sound, seenOf, judgedOf};
 ghost use Rattle.circuit.specs.Circuit.{answerOf};
 ghost use Rattle.circuit.specs.Judged.{Answers, Says};
@@ -135,7 +135,7 @@ fn pass(
     }
 }
 
-// Judges a circuit. Where it is accepted, `offsets` then has where its blocks stand.
+// Judges a circuit. Where it is accepted, `offsets` then has where its blocks stand. For the crates above; not a call.
 pub fn judge(
     limits: Limits,
     kinds: &KindTable,

@@ -10,8 +10,8 @@ use lib.ListN.{getD}
 use borrow.Author.Tests.{ne-eqb, eqb-true, leb-true}
 use Rattle.words.proofs.Bounds.{and-true}
 use Rattle.refusals.specs.declared.Limits.{Limits}
-use Rattle.connectors.specs.Connectors.{member, takes, inverts, names, least, greatest, connectorAt, connectorsAt, wrong, later, anyOf, sixOrSeven}
-use Rattle.connectors.specs.Named.{lower}
+use Rattle.connectors.specs.Connectors.{member, takes, inverts, namesBlock, least, greatest, connectorAt, connectorsAt, wrong, later, anyOf}
+use Rattle.connectors.specs.Named.{sixOrSeven, lower}
 
 -- ---- tests
 
@@ -45,7 +45,7 @@ member-above m k (x ∷ l) e h =
     let ne : (k ≡ x → ⊥) = λ q. omega arith in
     simp (ne-eqb k x ne) (member-above m k l (and-true (leb x m) (upTo m l) e .1) h)
 
-takes-up : (place : ℕ) → upTo 9 (takes place) ≡ true
+takes-up : (spot : ℕ) → upTo 9 (takes spot) ≡ true
 unfolding takes
 takes-up zero = refl
 takes-up (suc zero) = refl
@@ -54,13 +54,13 @@ takes-up (suc (suc (suc zero))) = refl
 takes-up (suc (suc (suc (suc zero)))) = refl
 takes-up (suc (suc (suc (suc (suc n))))) = refl
 
-pub takes-above : (place k : ℕ) → 9 < k → member k (takes place) ≡ false
-takes-above place k h = member-above 9 k (takes place) (takes-up place) h
+pub takes-above : (spot k : ℕ) → 9 < k → member k (takes spot) ≡ false
+takes-above spot k h = member-above 9 k (takes spot) (takes-up spot) h
 
 takes-bit : ℕ → ℕ
 takes-bit i = cond (member (i % 10) (takes (i / 10))) 1 0
 
-pub takes-bits : (place class : ℕ) → place < 5 → class < 10 → eqb (1089478683656287 / 2 ^ (place * 10 + class) % 2) 1 ≡ member class (takes place)
+pub takes-bits : (spot class : ℕ) → spot < 5 → class < 10 → eqb (1089478683656287 / 2 ^ (spot * 10 + class) % 2) 1 ≡ member class (takes spot)
 unfolding takes-bit takes member
 takes-bits p k h g =
     let l : p * 10 + k < 50 = omega arith in
@@ -83,16 +83,16 @@ unfolding least
 least-bits k h = same-at 10 (λ i. 978 / 2 ^ i % 2) least refl k h
 
 -- a class that names a block: from 1 to n
-pub names-least : (k : ℕ) → names k ≡ true → least k ≡ 1
-unfolding names least
+pub names-least : (k : ℕ) → namesBlock k ≡ true → least k ≡ 1
+unfolding namesBlock least
 names-least k e = go (eqb k 6) refl
   where
     go : (b : Bool) → eqb k 6 ≡ b → least k ≡ 1
     go true q = ap least (eqb-true k 6 q)
     go false q = ap least (eqb-true k 9 (simp q at e))
 
-pub names-greatest : (limits : Limits) (n k : ℕ) → names k ≡ true → greatest limits n k ≡ n
-unfolding names greatest
+pub names-greatest : (limits : Limits) (n k : ℕ) → namesBlock k ≡ true → greatest limits n k ≡ n
+unfolding namesBlock greatest
 names-greatest limits n k e = go (eqb k 6) refl
   where
     go : (b : Bool) → eqb k 6 ≡ b → greatest limits n k ≡ n
@@ -100,8 +100,8 @@ names-greatest limits n k e = go (eqb k 6) refl
     go false q = ap (greatest limits n) (eqb-true k 9 (simp q at e))
 
 -- a class without numbers
-pub greatest-other : (limits : Limits) (n k : ℕ) → names k ≡ false → (k ≡ 1 → ⊥) → (k ≡ 4 → ⊥) → (k ≡ 7 → ⊥) → (k ≡ 8 → ⊥) → greatest limits n k ≡ 0
-unfolding names greatest
+pub greatest-other : (limits : Limits) (n k : ℕ) → namesBlock k ≡ false → (k ≡ 1 → ⊥) → (k ≡ 4 → ⊥) → (k ≡ 7 → ⊥) → (k ≡ 8 → ⊥) → greatest limits n k ≡ 0
+unfolding namesBlock greatest
 greatest-other limits n zero e i m a am = refl
 greatest-other limits n (suc zero) e i m a am = absurd (i refl)
 greatest-other limits n (suc (suc zero)) e i m a am = refl
@@ -152,11 +152,11 @@ is-wrong false true h nz = sym (h refl)
 is-wrong false false h nz = absurd (nz refl)
 
 -- a block's inputs, from the last to the first
-module _ (limits : Limits) (place own n : ℕ) (sorts : List Bool) (s : List ℕ) (at count : ℕ) where
+module _ (limits : Limits) (spot own n : ℕ) (sorts : List Bool) (s : List ℕ) (at count : ℕ) where
   -- the number of k of them from a place on
   abbrev pub numberOf : ℕ → ℕ → ℕ
   numberOf from k =
-      sixOrSeven (anyOf (wrong limits place own n sorts) (connectorsAt s from k)) (anyOf (later own) (connectorsAt s from k))
+      sixOrSeven (anyOf (wrong limits spot own n sorts) (connectorsAt s from k)) (anyOf (later own) (connectorsAt s from k))
 
   pub inputs-none : 0 ≡ numberOf (at + 3 * count) (count - count)
   unfolding anyOf connectorsAt sixOrSeven
@@ -168,7 +168,7 @@ module _ (limits : Limits) (place own n : ℕ) (sorts : List Bool) (s : List ℕ
       let q : count - left ≡ count = omega arith in
       simp (p, q)
 
-  pub inputs-more : (left : ℕ) → 0 < left → left ≤ count → lower (sixOrSeven (wrong limits place own n sorts (connectorAt s (at + 3 * (left - 1)))) (later own (connectorAt s (at + 3 * (left - 1))))) (numberOf (at + 3 * left) (count - left)) ≡ numberOf (at + 3 * (left - 1)) (count - (left - 1))
+  pub inputs-more : (left : ℕ) → 0 < left → left ≤ count → lower (sixOrSeven (wrong limits spot own n sorts (connectorAt s (at + 3 * (left - 1)))) (later own (connectorAt s (at + 3 * (left - 1))))) (numberOf (at + 3 * left) (count - left)) ≡ numberOf (at + 3 * (left - 1)) (count - (left - 1))
   unfolding anyOf connectorsAt
   inputs-more left h l =
       let p : at + 3 * (left - 1) + 3 ≡ at + 3 * left = omega arith in

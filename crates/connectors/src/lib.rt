@@ -4,26 +4,26 @@ ghost use mathlib.Core.Bool.{false, not, _&&_, _||_};
 ghost use Prim.Native.Nat.{ℕ, _+_, _*_, _≤_, _<_};
 ghost use lib.ListN.{length};
 ghost use lib.Dec.{leb, ltb};
-ghost use Rattle.connectors.specs.Connectors.{member, takes, inverts, least, greatest, names, connectorAt, connectorsAt, wrong, later, anyOf, sixOrSeven};
-ghost use Rattle.connectors.specs.Named.{namedNumber, lower as lowerOf};
+ghost use Rattle.connectors.specs.Connectors.{member, takes, inverts, least, greatest, namesBlock, connectorAt, connectorsAt, wrong, later, anyOf};
+ghost use Rattle.connectors.specs.Named.{sixOrSeven, namedNumber, lower as lowerOf};
 use refusals::Limits;
 
-// Where a connector stands: in a digital input, in an analog one, in a row of unknown class. Rows of digital and analog ones are 2 and 3.
+// A connector's spot: in a digital input, in an analog one, in a row of unknown class. Rows of digital and analog ones are 2 and 3.
 pub const DIGITAL_INPUT: usize = 0;
 
 pub const ANALOG_INPUT: usize = 1;
 
 pub const UNKNOWN_ROW: usize = 4;
 
-// Bit 10 * place + class: whether the place takes the class. Ten bits a place, class 9 to 0, from place 4 to 0.
+// Bit 10 * spot + class: whether the spot takes the class. Ten bits a spot, class 9 to 0, from spot 4 to 0.
 const TAKES: usize = 0b1111011110_1110000000_0001011110_1110000000_0001011111;
 
-// Whether a place takes a class.
-fn takes_class(place: usize, class: usize) -> bool
-    requires { ⌜ (place < 5) × (class < 10) ⌝ }
-    ensures { λ r. ⌜ r ≡ member class (takes place) ⌝ }
+// Whether a spot takes a class.
+fn takes_class(spot: usize, class: usize) -> bool
+    requires { ⌜ (spot < 5) × (class < 10) ⌝ }
+    ensures { λ r. ⌜ r ≡ member class (takes spot) ⌝ }
 {
-    (TAKES >> (place * 10 + class)) % 2 == 1
+    (TAKES >> (spot * 10 + class)) % 2 == 1
 }
 
 // Bit of a class, 9 to 0: whether it cannot be inverted.
@@ -42,7 +42,7 @@ fn wrongly_inverted(byte: usize, class: usize) -> bool
 
 // The greatest number of a class that names no block.
 fn greatest_of(limits: Limits, class: usize) -> usize
-    requires { ⌜ names class ≡ false ⌝ }
+    requires { ⌜ namesBlock class ≡ false ⌝ }
     ensures { λ r. ⌜ ((n : ℕ) → r ≡ greatest limits n class) ⌝ }
 {
     if class == 1 {
@@ -65,7 +65,7 @@ const LEAST: usize = 0b1111010010;
 
 // Whether a number is out of the range of a class that names no block.
 fn out_of_range(limits: Limits, class: usize, number: usize) -> bool
-    requires { ⌜ (class < 10) × (names class ≡ false) ⌝ }
+    requires { ⌜ (class < 10) × (namesBlock class ≡ false) ⌝ }
     ensures { λ r. ⌜ ((n : ℕ) → r ≡ (ltb number (least class) || ltb (greatest limits n class) number)) ⌝ }
 {
     if number < (LEAST >> class) % 2 {
@@ -76,15 +76,15 @@ fn out_of_range(limits: Limits, class: usize, number: usize) -> bool
 
 // Whether a class names a block.
 fn names_block(class: usize) -> bool
-    ensures { λ r. ⌜ r ≡ names class ⌝ }
+    ensures { λ r. ⌜ r ≡ namesBlock class ⌝ }
 {
     (class == 6) | (class == 9)
 }
 
 // The number of a connector of a right class that names a block.
-fn named(place: usize, own: usize, n: usize, sorts: &[bool; 400], class: usize, number: usize) -> u8
+fn named(spot: usize, own: usize, n: usize, sorts: &[bool; 400], class: usize, number: usize) -> u8
     requires { ⌜ own ≤ 401 ⌝ }
-    ensures { λ r. ⌜ r ≡ namedNumber place own n (now (sorts .entry)) class number ⌝ }
+    ensures { λ r. ⌜ r ≡ namedNumber spot own n (now (sorts .entry)) class number ⌝ }
 {
     if number < 1 {
         return 6;
@@ -95,7 +95,7 @@ fn named(place: usize, own: usize, n: usize, sorts: &[bool; 400], class: usize, 
     if own <= number {
         return 7;
     }
-    if place == UNKNOWN_ROW {
+    if spot == UNKNOWN_ROW {
         return 0;
     }
     let analog = sorts[number - 1];
@@ -108,28 +108,28 @@ fn named(place: usize, own: usize, n: usize, sorts: &[bool; 400], class: usize, 
 // The number of a connector, by its class byte and its number.
 fn connected(
     limits: Limits,
-    place: usize,
+    spot: usize,
     own: usize,
     n: usize,
     sorts: &[bool; 400],
     byte: usize,
     number: usize,
 ) -> u8
-    requires { ⌜ (place < 5) × (own ≤ 401) ⌝ }
-    ensures { λ r. ⌜ r ≡ sixOrSeven (wrong limits place own n (now (sorts .entry)) (record { class = byte; number = number })) (later own (record { class = byte; number = number })) ⌝ }
+    requires { ⌜ (spot < 5) × (own ≤ 401) ⌝ }
+    ensures { λ r. ⌜ r ≡ sixOrSeven (wrong limits spot own n (now (sorts .entry)) (record { class = byte; number = number })) (later own (record { class = byte; number = number })) ⌝ }
 {
     let class = byte % 128;
     if 9 < class {
         return 6;
     }
-    if !takes_class(place, class) {
+    if !takes_class(spot, class) {
         return 6;
     }
     if wrongly_inverted(byte, class) {
         return 6;
     }
     if names_block(class) {
-        return named(place, own, n, sorts, class, number);
+        return named(spot, own, n, sorts, class, number);
     }
     if out_of_range(limits, class, number) {
         return 6;
@@ -142,17 +142,17 @@ pub fn connector(
     limits: Limits,
     bytes: &[u8],
     at: usize,
-    place: usize,
+    spot: usize,
     own: usize,
     n: usize,
     sorts: &[bool; 400],
 ) -> u8
-    requires { ⌜ (at + 3 ≤ length (now bytes)) × (place < 5) × (own ≤ 401) ⌝ }
-    ensures { λ r. ⌜ r ≡ sixOrSeven (wrong limits place own n (now (sorts .entry)) (connectorAt (now (bytes .entry)) at)) (later own (connectorAt (now (bytes .entry)) at)) ⌝ }
+    requires { ⌜ (at + 3 ≤ length (now bytes)) × (spot < 5) × (own ≤ 401) ⌝ }
+    ensures { λ r. ⌜ r ≡ sixOrSeven (wrong limits spot own n (now (sorts .entry)) (connectorAt (now (bytes .entry)) at)) (later own (connectorAt (now (bytes .entry)) at)) ⌝ }
 {
     let byte = words::byte_at(bytes, at);
     let number = words::two_at(bytes, at + 1);
-    connected(limits, place, own, n, sorts, byte, number)
+    connected(limits, spot, own, n, sorts, byte, number)
 }
 
 // The lower of two refusal numbers; 0 is none.
@@ -177,20 +177,20 @@ pub fn inputs(
     bytes: &[u8],
     at: usize,
     count: usize,
-    place: usize,
+    spot: usize,
     own: usize,
     n: usize,
     sorts: &[bool; 400],
 ) -> u8
-    requires { ⌜ (at + 3 * count ≤ length (now bytes)) × (place < 5) × (own ≤ 401) ⌝ }
-    ensures { λ r. ⌜ r ≡ sixOrSeven (anyOf (wrong limits place own n (now (sorts .entry))) (connectorsAt (now (bytes .entry)) at count)) (anyOf (later own) (connectorsAt (now (bytes .entry)) at count)) ⌝ }
+    requires { ⌜ (at + 3 * count ≤ length (now bytes)) × (spot < 5) × (own ≤ 401) ⌝ }
+    ensures { λ r. ⌜ r ≡ sixOrSeven (anyOf (wrong limits spot own n (now (sorts .entry))) (connectorsAt (now (bytes .entry)) at count)) (anyOf (later own) (connectorsAt (now (bytes .entry)) at count)) ⌝ }
 {
     let mut left = count;
     let mut worst = 0u8;
     while 0 < left {
         left = left - 1;
         worst = lower(
-            connector(limits, bytes, at + 3 * left, place, own, n, sorts),
+            connector(limits, bytes, at + 3 * left, spot, own, n, sorts),
             worst,
         );
     }

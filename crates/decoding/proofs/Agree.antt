@@ -13,9 +13,9 @@ use Rattle.words.proofs.Bounds.{and-true}
 use Rattle.kinds.specs.Kinds.{kindOf, allowed}
 use Rattle.refusals.specs.Faults.{lowest}
 use Rattle.refusals.specs.declared.Limits.{Limits}
-use Rattle.connectors.specs.Connectors.{Connector, classOf, names, namesAnalog, unknownRow, digitalInput, analogInput, connectorAt, misfits, wrongSort, wrong, anyOf}
+use Rattle.connectors.specs.Connectors.{Connector, classOf, namesBlock, namesAnalog, unknownRow, digitalInput, analogInput, connectorAt, misfits, wrongSort, wrong, anyOf}
 use Rattle.blockfield.specs.BlockField.{kindAt, optionAt, digitalsAt, analogsAt, parametersAt, wrongLength, wrongKind, wrongInputs, laterInputs, shiftRegister, blockFaults}
-use Rattle.fields.specs.Fields.{placeOf, unknown, classAt, numberIn, rowFaults}
+use Rattle.fields.specs.Fields.{spotOf, unknown, classAt, numberIn, rowFaults}
 
 -- a test behind another one matters only where that one passes, or fails
 and-agree : (a x y : Bool) → (a ≡ true → x ≡ y) → (a && x) ≡ (a && y)
@@ -39,15 +39,15 @@ module _ (limits : Limits) (count n : ℕ) (sorts : List Bool) where
       let h : number < suc count = rw add-one at (ltb-true number (count + 1) e) in
       sym (getD-take (suc count) (false ∷ sorts) number false h)
 
-  wrong-agree : (place : ℕ) (c : Connector) → wrong limits place (count + 1) n sorts c ≡ wrong limits place (count + 1) n (take count sorts) c
+  wrong-agree : (spot : ℕ) (c : Connector) → wrong limits spot (count + 1) n sorts c ≡ wrong limits spot (count + 1) n (take count sorts) c
   unfolding wrong wrongSort
-  wrong-agree place c =
+  wrong-agree spot c =
       let k = classOf c in
-      ap (λ (b : Bool). misfits limits place n c || b)
-      (and-agree (names k && ltb (c .number) (count + 1))
-      (not (eqb place unknownRow) && not (Bool·beq (getD (false ∷ sorts) (c .number) false) (namesAnalog k)))
-      (not (eqb place unknownRow) && not (Bool·beq (getD (false ∷ take count sorts) (c .number) false) (namesAnalog k)))
-      (λ e. ap (λ (x : Bool). not (eqb place unknownRow) && not (Bool·beq x (namesAnalog k))) (sort-agree (c .number) (and-true (names k) _ e .1))))
+      ap (λ (b : Bool). misfits limits spot n c || b)
+      (and-agree (namesBlock k && ltb (c .number) (count + 1))
+      (not (eqb spot unknownRow) && not (Bool·beq (getD (false ∷ sorts) (c .number) false) (namesAnalog k)))
+      (not (eqb spot unknownRow) && not (Bool·beq (getD (false ∷ take count sorts) (c .number) false) (namesAnalog k)))
+      (λ e. ap (λ (x : Bool). not (eqb spot unknownRow) && not (Bool·beq x (namesAnalog k))) (sort-agree (c .number) (and-true (namesBlock k) _ e .1))))
 
   inputs-agree : (digitals analogs : List Connector) → wrongInputs limits (count + 1) n sorts digitals analogs ≡ wrongInputs limits (count + 1) n (take count sorts) digitals analogs
   unfolding wrongInputs
@@ -65,7 +65,7 @@ module _ (limits : Limits) (count n : ℕ) (sorts : List Bool) where
   pub row-agree : (s : List ℕ) (at size stage : ℕ) (u v : Bool) → (unknown limits (classAt s at) (numberIn s at) ≡ false → u ≡ v) → lowest (rowFaults limits s at size stage n count sorts u) ≡ lowest (rowFaults limits s at size stage n count (take count sorts) v)
   unfolding rowFaults
   row-agree s at size stage u v h =
-      rw (wrong-agree (placeOf (classAt s at)) (connectorAt s (at + 5)), or-agree (unknown limits (classAt s at) (numberIn s at)) u v h)
+      rw (wrong-agree (spotOf (classAt s at)) (connectorAt s (at + 5)), or-agree (unknown limits (classAt s at) (numberIn s at)) u v h)
 
 -- ---- whether an index is used
 

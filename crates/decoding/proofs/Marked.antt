@@ -16,7 +16,7 @@ use Rattle.words.proofs.Bounds.{and-true}
 use Rattle.words.proofs.Sides as sides
 use Rattle.words.proofs.Sides.{leZ-true, le-leZ}
 use Rattle.refusals.proofs.Tests.{and-iff, fails}
-use Rattle.refusals.specs.Limited.{Modest}
+use Rattle.refusals.specs.Modest.{Modest}
 use Rattle.refusals.specs.declared.Limits.{Limits}
 use Rattle.blockfield.specs.BlockField.{shiftRegister}
 use Rattle.fields.specs.Fields.{limitOf}

@@ -16,7 +16,7 @@ use Rattle.words.proofs.Bounds.{amount-between}
 use Rattle.kinds.specs.Kinds.{kinds, kindOf, isAnalog, allowed, indexed}
 use Rattle.refusals.specs.Faults.{lowest}
 use Rattle.refusals.specs.Stages.{amongBlocks, afterBlock, amongRows, ended}
-use Rattle.refusals.specs.Limited.{Modest}
+use Rattle.refusals.specs.Modest.{Modest}
 use Rattle.refusals.specs.declared.Limits.{Limits}
 use Rattle.blockfield.specs.BlockField.{kindAt, parametersAt, signedAt, signedsAt, indexFrom, shiftRegister, blockFaults}
 use Rattle.blockfield.specs.Marked.{indexMark, Lies}

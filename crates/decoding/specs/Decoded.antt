@@ -1,4 +1,4 @@
--- Document 01, "Circuit bytes": what a circuit is made of; what holds for each field of it, and what the field adds.
+-- Document 01, "Circuit bytes": fields; what a circuit is made of; what holds for each field of it, and what the field adds.
 use Prim.Native.Nat.{ℕ, _+_}
 use mathlib.Core.Bool.{Bool, false, _&&_, _||_}
 use mathlib.Core.List.{List, [], _∷_, _++_, map}
@@ -16,8 +16,21 @@ use Rattle.connectors.specs.Connectors.{Connector, connectorAt}
 use Rattle.blockfield.specs.BlockField.{kindAt, optionAt, digitalsAt, analogsAt, parametersAt, signedAt, shiftRegister, indexFrom, blockFaults}
 use Rattle.fields.specs.Fields.{headerFaults, labelFaults, rowFaults, endFaults, classAt, numberIn}
 
+-- ---- a field: "a one-byte tag, a two-byte length .., content"
+
+abbrev pub sizeAt : List ℕ → ℕ → ℕ
+sizeAt s at = numberAt 2 s (at + 1)
+
+abbrev pub contentAt : List ℕ → ℕ → List ℕ
+contentAt s at = take (sizeAt s at) (drop (at + 3) s)
+
+-- where the next one begins
+abbrev pub nextAt : List ℕ → ℕ → ℕ
+nextAt s at = at + 3 + sizeAt s at
+
 -- ---- what a circuit is made of
 
+-- "kind, options, connectors, parameters"; and its label
 pub record Block : Type 0 where
   pub kind : ℕ
   pub option : ℕ
@@ -25,6 +38,7 @@ pub record Block : Type 0 where
   pub parameters : List ℤ
   pub label : Option (List ℕ)
 
+-- "destination class and number (a byte each), one connector"
 pub record Row : Type 0 where
   pub class : ℕ
   pub number : ℕ
@@ -32,6 +46,7 @@ pub record Row : Type 0 where
 
 pub record Circuit : Type 0 where
   pub version : ℕ
+  -- what the header says
   pub n : ℕ
   pub blocks : List Block
   pub rows : List Row
@@ -45,6 +60,7 @@ pub record State : Type 0 where
   pub blocks : List Block
   pub rows : List Row
 
+-- before the first field
 abbrev pub nothing : State
 nothing = record { stage = opening; version = 0; n = 0; blocks = []; rows = [] }
 
@@ -58,34 +74,23 @@ isAnalogBlock b = isAnalog (kindOf (b .kind) .output)
 abbrev pub sortsOf : List Block → List Bool
 sortsOf blocks = map isAnalogBlock blocks
 
--- a shift register's index
+-- a shift register's index, its first parameter
 abbrev pub indexOf : Block → ℤ
 indexOf b = parameter (b .parameters) 0
 
+-- two parameters are one number
 abbrev pub same : ℤ → ℤ → Bool
 same x y = leZ x y && leZ y x
 
--- a shift register among the blocks has the index
+-- a shift register among the blocks has the index. 10: "shift register index used twice"
 unfoldable pub indexUsed : ℤ → List Block → Bool
 indexUsed x [] = false
 indexUsed x (b ∷ l) = (eqb (b .kind) shiftRegister && same (indexOf b) x) || indexUsed x l
 
--- a row has the destination
+-- a row has the destination. 9: "destination .. used twice"
 unfoldable pub destinationUsed : ℕ → ℕ → List Row → Bool
 destinationUsed class number [] = false
 destinationUsed class number (r ∷ l) = (eqb (r .class) class && eqb (r .number) number) || destinationUsed class number l
-
--- ---- a field: "a one-byte tag, a two-byte length .., content"
-
-abbrev pub sizeAt : List ℕ → ℕ → ℕ
-sizeAt s at = numberAt 2 s (at + 1)
-
-abbrev pub contentAt : List ℕ → ℕ → List ℕ
-contentAt s at = take (sizeAt s at) (drop (at + 3) s)
-
--- where the next one begins
-abbrev pub nextAt : List ℕ → ℕ → ℕ
-nextAt s at = at + 3 + sizeAt s at
 
 -- ---- what holds for a field of `size` bytes of content, given what the earlier ones decoded to
 
@@ -133,10 +138,12 @@ labelled x [] = []
 labelled x (b ∷ []) = withLabel x b ∷ []
 labelled x (b ∷ c ∷ l) = b ∷ labelled x (c ∷ l)
 
+-- "version (1), number of blocks n in two bytes"
 abbrev pub headerTaken : List ℕ → ℕ → State → State
 headerTaken s at st =
     record { stage = amongBlocks; version = getD s (at + 3) 0; n = numberAt 2 s (at + 4); blocks = st .blocks; rows = st .rows }
 
+-- "Blocks are numbered 1, 2, .. in file order"
 abbrev pub blockTaken : List ℕ → ℕ → State → State
 blockTaken s at st =
     record { stage = afterBlock; version = st .version; n = st .n; blocks = st .blocks ++ (blockAt s at ∷ []); rows = st .rows }

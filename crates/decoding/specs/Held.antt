@@ -22,7 +22,7 @@ use Rattle.decoding.specs.declared.Step.{Step}
 abbrev pub bare : Block → Block
 bare b = record { kind = b .kind; option = b .option; inputs = b .inputs; parameters = b .parameters; label = none }
 
--- k rows, one behind the other, from a place on
+-- k rows, one behind the other
 unfoldable pub rowsAt : List ℕ → ℕ → ℕ → List Row
 rowsAt s at zero = []
 rowsAt s at (suc k) = rowAt s at ∷ rowsAt s (at + 8) k
@@ -52,6 +52,7 @@ pub record Sound (head : Head) (at : ℕ) : Type 0 where
   pub along : (head .stage ≡ ended → ⊥) → at ≡ head .start + 8 * head .rows
   pub closed : head .stage ≡ ended → at ≡ head .start + 8 * head .rows + 3
 
+-- what is carried stands for a state
 pub record Holds (limits : Limits) (s : List ℕ) (seen : Seen) (st : State) : Type 0 where
   pub stage : seen .head .stage ≡ st .stage
   pub n : seen .head .n ≡ st .n

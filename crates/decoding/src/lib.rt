@@ -7,7 +7,7 @@ ghost use lib.ListN.{length};
 ghost use lib.IntN.{pos};
 ghost use Rattle.words.specs.Signed.{Between};
 ghost use Rattle.kinds.specs.Table.{kindsTable};
-ghost use Rattle.refusals.specs.Limited.{Modest};
+ghost use Rattle.refusals.specs.Modest.{Modest};
 ghost use Rattle.refusals.specs.declared.Limits.{Limits};
 ghost use Rattle.blockfield.specs.BlockField.{kindAt, signedAt, indexFrom, shiftRegister};
 ghost use Rattle.decoding.specs.Decoded.{headerIn, blockIn, labelIn, rowIn, endIn, headerTaken, blockTaken, labelTaken, rowTaken, endTaken};

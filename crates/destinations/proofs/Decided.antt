@@ -9,7 +9,7 @@ use lib.Dec.{eqb}
 use lib.IntN.{ℤ, pos}
 use borrow.Author.Tests.{eq-eqb}
 use Rattle.refusals.specs.declared.Limits.{Limits}
-use Rattle.refusals.specs.Limited.{Modest}
+use Rattle.refusals.specs.Modest.{Modest}
 use Rattle.refusals.proofs.Tests.{or-false}
 use Rattle.fields.specs.Fields.{limitOf}
 use Rattle.decoding.specs.Decoded.{Row, destinationUsed}

@@ -7,11 +7,12 @@ use lib.Dec.{eqb, leb, ltb}
 use mathlib.Core.List.{List}
 use borrow.Author.Tests.{ltb-false, eqb-false, lt-leb}
 use Rattle.refusals.proofs.Tests.{or-false}
-use Rattle.refusals.specs.Limited.{Modest}
+use Rattle.refusals.specs.Modest.{Modest}
 use Rattle.refusals.specs.declared.Limits.{Limits}
-use Rattle.connectors.specs.Connectors.{Connector, classOf, isInverted, member, takes, inverts, least, greatest, names, misfits, wrongSort, wrong, later, connectorAt, sixOrSeven}
+use Rattle.connectors.specs.Connectors.{Connector, classOf, isInverted, member, takes, inverts, least, greatest, namesBlock, misfits, wrongSort, wrong, later, connectorAt}
+use Rattle.connectors.specs.Named.{sixOrSeven}
 use Rattle.connectors.proofs.Laws.{same-at, names-greatest, none-wrong, is-wrong}
-use Rattle.fields.specs.Fields.{limitOf, placeOf, unknown, classAt}
+use Rattle.fields.specs.Fields.{limitOf, spotOf, unknown, classAt}
 use Rattle.fields.specs.Marks.{base, mark}
 
 -- ---- destinations
@@ -61,59 +62,59 @@ pub base-bits : (class : ℕ) → class < 5 → 24872550400 / 2 ^ (class * 7) % 
 unfolding base
 base-bits k h = same-at 5 (λ i. 24872550400 / 2 ^ (i * 7) % 128) base refl k h
 
-pub place-bits : (class : ℕ) → class < 5 → 13972 / 2 ^ (class * 3) % 8 ≡ placeOf class
-unfolding placeOf
-place-bits k h = same-at 5 (λ i. 13972 / 2 ^ (i * 3) % 8) placeOf refl k h
+pub spot-bits : (class : ℕ) → class < 5 → 13972 / 2 ^ (class * 3) % 8 ≡ spotOf class
+unfolding spotOf
+spot-bits k h = same-at 5 (λ i. 13972 / 2 ^ (i * 3) % 8) spotOf refl k h
 
-pub place-above : (class : ℕ) → 4 < class → placeOf class ≡ 4
-unfolding placeOf
-place-above zero h = let z : ⊥ = omega arith in absurd z
-place-above (suc zero) h = let z : ⊥ = omega arith in absurd z
-place-above (suc (suc zero)) h = let z : ⊥ = omega arith in absurd z
-place-above (suc (suc (suc zero))) h = let z : ⊥ = omega arith in absurd z
-place-above (suc (suc (suc (suc zero)))) h = let z : ⊥ = omega arith in absurd z
-place-above (suc (suc (suc (suc (suc k))))) h = refl
+pub spot-above : (class : ℕ) → 4 < class → spotOf class ≡ 4
+unfolding spotOf
+spot-above zero h = let z : ⊥ = omega arith in absurd z
+spot-above (suc zero) h = let z : ⊥ = omega arith in absurd z
+spot-above (suc (suc zero)) h = let z : ⊥ = omega arith in absurd z
+spot-above (suc (suc (suc zero))) h = let z : ⊥ = omega arith in absurd z
+spot-above (suc (suc (suc (suc zero)))) h = let z : ⊥ = omega arith in absurd z
+spot-above (suc (suc (suc (suc (suc k))))) h = refl
 
-pub place-below : (class : ℕ) → placeOf class < 5
-unfolding placeOf
-place-below zero = omega arith
-place-below (suc zero) = omega arith
-place-below (suc (suc zero)) = omega arith
-place-below (suc (suc (suc zero))) = omega arith
-place-below (suc (suc (suc (suc zero)))) = omega arith
-place-below (suc (suc (suc (suc (suc k))))) = omega arith
+pub spot-below : (class : ℕ) → spotOf class < 5
+unfolding spotOf
+spot-below zero = omega arith
+spot-below (suc zero) = omega arith
+spot-below (suc (suc zero)) = omega arith
+spot-below (suc (suc (suc zero))) = omega arith
+spot-below (suc (suc (suc (suc zero)))) = omega arith
+spot-below (suc (suc (suc (suc (suc k))))) = omega arith
 
 -- ---- a row stands behind all blocks
 
 -- what is not above n is not later than n + 1
-pub none-later : (limits : Limits) (place own n : ℕ) (sorts : List Bool) (c : Connector) → n < own → wrong limits place own n sorts c ≡ false → later own c ≡ false
+pub none-later : (limits : Limits) (spot own n : ℕ) (sorts : List Bool) (c : Connector) → n < own → wrong limits spot own n sorts c ≡ false → later own c ≡ false
 unfolding wrong misfits later
-none-later limits place own n sorts c h e = go (names (classOf c)) refl
+none-later limits spot own n sorts c h e = go (namesBlock (classOf c)) refl
   where
-    go : (b : Bool) → names (classOf c) ≡ b → (b && leb own (c .number)) ≡ false
+    go : (b : Bool) → namesBlock (classOf c) ≡ b → (b && leb own (c .number)) ≡ false
     go false q = refl
     go true q =
         let k = classOf c in
-        let f = or-false (misfits limits place n c) (wrongSort place own sorts c) .0 e .0 in
-        let f′ = or-false (not (member k (takes place))) _ .0 f .1 in
+        let f = or-false (misfits limits spot n c) (wrongSort spot own sorts c) .0 e .0 in
+        let f′ = or-false (not (member k (takes spot))) _ .0 f .1 in
         let f″ = or-false (isInverted c && not (inverts k)) _ .0 f′ .1 in
         let r : c .number ≤ greatest limits n k = ltb-false (greatest limits n k) (c .number) (or-false (ltb (c .number) (least k)) _ .0 f″ .1) in
         let r′ : c .number ≤ n = subst (λ (x : ℕ). c .number ≤ x) (names-greatest limits n k q) r in
         lt-leb own (c .number) (omega arith)
 
 -- the number of a row's connector is 6 or none
-module _ (limits : Limits) (s : List ℕ) (at n own : ℕ) (sorts : List Bool) (class place fault : ℕ)
+module _ (limits : Limits) (s : List ℕ) (at n own : ℕ) (sorts : List Bool) (class spot fault : ℕ)
     (is-class : class ≡ classAt s at)
-    (is-place : place ≡ placeOf class)
-    (is-fault : fault ≡ sixOrSeven (wrong limits place own n sorts (connectorAt s (at + 5))) (later own (connectorAt s (at + 5))))
+    (is-spot : spot ≡ spotOf class)
+    (is-fault : fault ≡ sixOrSeven (wrong limits spot own n sorts (connectorAt s (at + 5))) (later own (connectorAt s (at + 5))))
   where
-    there : wrong limits place own n sorts (connectorAt s (at + 5)) ≡ wrong limits (placeOf (classAt s at)) own n sorts (connectorAt s (at + 5))
-    there = ap (λ (p : ℕ). wrong limits p own n sorts (connectorAt s (at + 5))) (is-place ∙ ap placeOf is-class)
+    there : wrong limits spot own n sorts (connectorAt s (at + 5)) ≡ wrong limits (spotOf (classAt s at)) own n sorts (connectorAt s (at + 5))
+    there = ap (λ (p : ℕ). wrong limits p own n sorts (connectorAt s (at + 5))) (is-spot ∙ ap spotOf is-class)
 
-    pub row-right : fault ≡ 0 → wrong limits (placeOf (classAt s at)) own n sorts (connectorAt s (at + 5)) ≡ false
+    pub row-right : fault ≡ 0 → wrong limits (spotOf (classAt s at)) own n sorts (connectorAt s (at + 5)) ≡ false
     row-right z = sym there ∙ none-wrong _ _ (sym is-fault ∙ z)
 
-    pub row-wrong : n < own → (fault ≡ 0 → ⊥) → wrong limits (placeOf (classAt s at)) own n sorts (connectorAt s (at + 5)) ≡ true
+    pub row-wrong : n < own → (fault ≡ 0 → ⊥) → wrong limits (spotOf (classAt s at)) own n sorts (connectorAt s (at + 5)) ≡ true
     row-wrong h nz =
         sym there
-        ∙ is-wrong _ _ (none-later limits place own n sorts (connectorAt s (at + 5)) h) (λ z. nz (is-fault ∙ z))
+        ∙ is-wrong _ _ (none-later limits spot own n sorts (connectorAt s (at + 5)) h) (λ z. nz (is-fault ∙ z))

@@ -4,8 +4,8 @@ ghost use mathlib.Core.Bool.{false};
 ghost use Prim.Native.Nat.{_+_, _≤_, _<_};
 ghost use lib.ListN.{length, getD};
 ghost use Rattle.refusals.specs.Faults.{lowest};
-ghost use Rattle.refusals.specs.Limited.{Modest};
-ghost use Rattle.fields.specs.Fields.{headerFaults, labelFaults, limitOf, placeOf, unknown, classAt, numberIn, rowFaults, endFaults};
+ghost use Rattle.refusals.specs.Modest.{Modest};
+ghost use Rattle.fields.specs.Fields.{headerFaults, labelFaults, limitOf, spotOf, unknown, classAt, numberIn, rowFaults, endFaults};
 ghost use Rattle.fields.specs.Marks.{mark};
 use refusals::AFTER_BLOCK;
 use refusals::Limits;
@@ -83,17 +83,17 @@ fn limit_of(limits: Limits, class: usize) -> usize
     0
 }
 
-// A digit of three bits for each destination class, 4 to 0: where its connector stands.
-const PLACES: usize = 0o33224;
+// A digit of three bits for each destination class, 4 to 0: its connector's spot.
+const SPOTS: usize = 0o33224;
 
-// Where the connector of a destination class stands.
-fn place_of(class: usize) -> usize
-    ensures { λ r. ⌜ (r ≡ placeOf class) × (r < 5) ⌝ }
+// The spot of the connector of a destination class.
+fn spot_of(class: usize) -> usize
+    ensures { λ r. ⌜ (r ≡ spotOf class) × (r < 5) ⌝ }
 {
     if 4 < class {
         return 4;
     }
-    (PLACES >> (class * 3)) % 8
+    (SPOTS >> (class * 3)) % 8
 }
 
 // Whether there is no such destination.
@@ -142,8 +142,8 @@ pub fn row_number(
         return 4;
     }
     let class = words::byte_at(bytes, at + 3);
-    let place = place_of(class);
-    if connectors::connector(limits, bytes, at + 5, place, blocks + 1, n, sorts) != 0 {
+    let spot = spot_of(class);
+    if connectors::connector(limits, bytes, at + 5, spot, blocks + 1, n, sorts) != 0 {
         return 6;
     }
     let number = words::byte_at(bytes, at + 4);

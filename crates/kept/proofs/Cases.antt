@@ -13,9 +13,9 @@ use Rattle.words.specs.Bytes.{numberAt, bytesOf}
 use Rattle.words.specs.Signed.{minus}
 use Rattle.kinds.specs.Kinds.{kinds, kindOf, known, allowed, scaled, timed, indexed, chosen}
 use Rattle.refusals.specs.Limited.{ours}
-use Rattle.connectors.specs.Connectors.{Connector, connectorsAt, member, takes, inverts, least, greatest, names, misfits, wrongSort, wrong, later, anyOf}
+use Rattle.connectors.specs.Connectors.{Connector, connectorsAt, member, takes, inverts, least, greatest, namesBlock, misfits, wrongSort, wrong, later, anyOf}
 use Rattle.blockfield.specs.BlockField.{signedsAt, wrongLength, wrongKind, wrongInputs, laterInputs, blockFaults}
-use Rattle.fields.specs.Fields.{headerFaults, labelFaults, rowFaults, endFaults, limitOf, placeOf}
+use Rattle.fields.specs.Fields.{headerFaults, labelFaults, rowFaults, endFaults, limitOf, spotOf}
 use Rattle.decoding.specs.Decoded.{Circuit, indexUsed, destinationUsed, labelled}
 use Rattle.circuit.specs.Circuit.{accepted, byTag, tagFaults, fieldFaults, fieldNumber, taken, closing, walk, verdictAt}
 use Rattle.kept.specs.Keeps.{Bytes, Keeps, field, connectorBytes, signedBytes, blockContent, rowContent, encode}
@@ -53,7 +53,7 @@ unfolding example bytes to encode field bytesOf signedBytes connectorBytes block
 its-bytes = refl
 
 judged : verdictAt ours bytes ≡ accepted example
-unfolding example bytes to verdictAt walk closing taken labelled fieldNumber fieldFaults tagFaults byTag headerFaults blockFaults labelFaults rowFaults endFaults numberAt destinationUsed indexUsed limitOf placeOf wrongLength wrongKind known kindOf kinds scaled timed indexed chosen allowed wrongInputs laterInputs anyOf wrong misfits wrongSort later connectorsAt signedsAt member takes inverts least greatest names
+unfolding example bytes to verdictAt walk closing taken labelled fieldNumber fieldFaults tagFaults byTag headerFaults blockFaults labelFaults rowFaults endFaults numberAt destinationUsed indexUsed limitOf spotOf wrongLength wrongKind known kindOf kinds scaled timed indexed chosen allowed wrongInputs laterInputs anyOf wrong misfits wrongSort later connectorsAt signedsAt member takes inverts least greatest namesBlock
 judged = refl
 
 allBytes : List ℕ → Bool

@@ -18,14 +18,14 @@ use Rattle.refusals.specs.declared.Limits.{Limits}
 use Rattle.connectors.specs.Connectors.{Connector, connectorAt, connectorsAt, classOf, unknownRow, digitalInput, analogInput, wrong, later, anyOf}
 use Rattle.connectors.proofs.Laws.{names-greatest}
 use Rattle.blockfield.specs.BlockField.{indexFrom, kindAt, digitalsAt, analogsAt, parametersFrom, signedAt, signedsAt, wrongLength, wrongKind, wrongInputs, laterInputs, shiftRegister, blockFaults}
-use Rattle.fields.specs.Fields.{rowFaults, limitOf, placeOf, unknown, classAt, numberIn}
+use Rattle.fields.specs.Fields.{rowFaults, limitOf, spotOf, unknown, classAt, numberIn}
 use Rattle.decoding.specs.Decoded.{Block, Row, sortsOf, indexOf, indexUsed, destinationUsed, blockAt, rowAt}
 use Rattle.kept.specs.Keeps.{Bytes, All, Refers, Allowed, BlockKeeps, Earlier, OwnIndex, RowKeeps, Once}
 use Rattle.refusals.proofs.Tests.{or-false, and-iff, and-false, not-is, none-holds}
 use Rattle.kept.proofs.Lists.{all-append, all-first, all-other, all-map, all-both}
 use Rattle.kept.proofs.Codec.{number-small, signed-fits}
 use Rattle.blockfield.proofs.Laws.{index-first}
-use Rattle.kept.proofs.Rules.{is-allowed, refers, not-wrong, not-later, none-of, right-parameters, are-allowed, known-place, apart, once}
+use Rattle.kept.proofs.Rules.{is-allowed, refers, not-wrong, not-later, none-of, right-parameters, are-allowed, known-spot, apart, once}
 
 -- ---- a row
 
@@ -55,15 +55,15 @@ module _ (limits : Limits) (s : List ℕ) (at size stage n : ℕ) (blocks : List
       let ne = eqb-false (numberIn s at) 0 (u .0) in
       let l : 1 ≤ numberIn s at = omega (arith, ne) in
       let h : numberIn s at ≤ limitOf limits (classAt s at) = ltb-false _ _ (u .1) in
-      let place = placeOf (classAt s at) in
-      let from = is-allowed limits place n blocks source-at (small (at + 5)) (number-small s small 2 (at + 5 + 1)) (none .1 .1 .0) in
+      let spot = spotOf (classAt s at) in
+      let from = is-allowed limits spot n blocks source-at (small (at + 5)) (number-small s small 2 (at + 5 + 1)) (none .1 .1 .0) in
       record {
         late = eqb-false _ _ (a .0);
         long = eqb-true _ _ (not-is _ .0 (a .1));
         full = full;
         keeps = record { low = l; high = h; fits = small (at + 4); from = from };
         source =
-            refers limits place n blocks source-at (known-place limits (classAt s at) (numberIn s at) (record { low = l; high = h })) (none .1 .1 .0)
+            refers limits spot n blocks source-at (known-spot limits (classAt s at) (numberIn s at) (record { low = l; high = h })) (none .1 .1 .0)
             (λ q. let top = names-greatest limits n (classOf source-at) q in let high = from .high in omega arith);
         once = once (rowAt s at) rows .0 (d .1);
       }
@@ -79,7 +79,7 @@ module _ (limits : Limits) (s : List ℕ) (at size stage n : ℕ) (blocks : List
         (
           le-ltb _ _ (r .full),
           (
-            not-wrong limits (placeOf (classAt s at)) n blocks source-at (k .from) (r .source),
+            not-wrong limits (spotOf (classAt s at)) n blocks source-at (k .from) (r .source),
             (or-false _ _ .1 (or-false _ _ .1 (ne-eqb _ _ ne, le-ltb _ _ (k .high)), once (rowAt s at) rows .1 (r .once)), tt),
           ),
         ),
@@ -130,21 +130,21 @@ index-is : (s : List ℕ) (at : ℕ) → kindAt s at ≡ shiftRegister → index
 index-is s at e = index-first s at (kindAt s at) e
 
 -- the inputs of one sort
-module _ (limits : Limits) (place n : ℕ) (before : List Block) (known-place : eqb place unknownRow ≡ false) (l : List Connector) where
+module _ (limits : Limits) (spot n : ℕ) (before : List Block) (known-spot : eqb spot unknownRow ≡ false) (l : List Connector) where
   abbrev Free : Type 0
-  Free = (anyOf (wrong limits place (length before + 1) n (sortsOf before)) l ≡ false) × (anyOf (later (length before + 1)) l ≡ false)
+  Free = (anyOf (wrong limits spot (length before + 1) n (sortsOf before)) l ≡ false) × (anyOf (later (length before + 1)) l ≡ false)
 
-  inputs-right : All (λ c. (c .class < 256) × (c .number < 65536)) l → Free → All (Allowed limits place n) l × All (Refers before) l
+  inputs-right : All (λ c. (c .class < 256) × (c .number < 65536)) l → Free → All (Allowed limits spot n) l × All (Refers before) l
   inputs-right small e =
       let w = none-of _ l .0 (e .0) in (
-        all-both _ _ _ (λ c h f. is-allowed limits place n before c (h .0) (h .1) f) l small w,
-        all-both _ _ _ (λ c f g. refers limits place n before c known-place f (not-later (length before) c .0 g)) l w
+        all-both _ _ _ (λ c h f. is-allowed limits spot n before c (h .0) (h .1) f) l small w,
+        all-both _ _ _ (λ c f g. refers limits spot n before c known-spot f (not-later (length before) c .0 g)) l w
             (none-of _ l .0 (e .1)),
       )
 
-  inputs-free : All (Allowed limits place n) l → All (Refers before) l → Free
+  inputs-free : All (Allowed limits spot n) l → All (Refers before) l → Free
   inputs-free a r = (
-    none-of _ l .1 (all-both _ _ _ (not-wrong limits place n before) l a r),
+    none-of _ l .1 (all-both _ _ _ (not-wrong limits spot n before) l a r),
     none-of _ l .1 (all-map _ _ (λ c f. not-later (length before) c .1 (f .there)) l r),
   )
 

@@ -17,9 +17,9 @@ use Rattle.kinds.specs.Kinds.{Range, In, _to_, kindOf, parameter, settingsFit, 
 use Rattle.kinds.proofs.Rows.{small-kind}
 use Rattle.kinds.proofs.Allowed.{param-in}
 use Rattle.refusals.specs.declared.Limits.{Limits}
-use Rattle.connectors.specs.Connectors.{Connector, classOf, isInverted, member, takes, inverts, least, names, unknownRow, misfits, wrongSort, wrong, later, anyOf}
+use Rattle.connectors.specs.Connectors.{Connector, classOf, isInverted, member, takes, inverts, least, namesBlock, unknownRow, misfits, wrongSort, wrong, later, anyOf}
 use Rattle.blockfield.specs.BlockField.{shiftRegister}
-use Rattle.fields.specs.Fields.{limitOf, placeOf}
+use Rattle.fields.specs.Fields.{limitOf, spotOf}
 use Rattle.fields.proofs.Laws.{Known}
 use Rattle.decoding.specs.Decoded.{Block, Row, sortsOf, indexOf, same, indexUsed, destinationUsed}
 use Rattle.decoding.proofs.Marked.{same-iff}
@@ -28,15 +28,15 @@ use Rattle.refusals.proofs.Tests.{or-false, and-iff, and-false, not-is, fails, 
 
 -- ---- a connector
 
-module _ (limits : Limits) (place n : ℕ) (before : List Block) (c : Connector) where
+module _ (limits : Limits) (spot n : ℕ) (before : List Block) (c : Connector) where
   abbrev pub is-wrong : Bool
-  is-wrong = wrong limits place (length before + 1) n (sortsOf before) c
+  is-wrong = wrong limits spot (length before + 1) n (sortsOf before) c
 
-  pub is-allowed : c .class < 256 → c .number < 65536 → is-wrong ≡ false → Allowed limits place n c
+  pub is-allowed : c .class < 256 → c .number < 65536 → is-wrong ≡ false → Allowed limits spot n c
   unfolding wrong misfits
   is-allowed small fits e =
-      let m = or-false (misfits limits place n c) _ .0 e .0 in
-      let a = or-false (not (member (classOf c) (takes place))) _ .0 m in
+      let m = or-false (misfits limits spot n c) _ .0 e .0 in
+      let a = or-false (not (member (classOf c) (takes spot))) _ .0 m in
       let b = or-false (isInverted c && not (inverts (classOf c))) _ .0 (a .1) in
       let range = or-false (ltb (c .number) (least (classOf c))) _ .0 (b .1) in
       record {
@@ -48,8 +48,8 @@ module _ (limits : Limits) (place n : ℕ) (before : List Block) (c : Connector)
         fits = fits;
       }
 
-  module _ (known-place : eqb place unknownRow ≡ false) where
-    pub refers : is-wrong ≡ false → (names (classOf c) ≡ true → c .number ≤ length before) → Refers before c
+  module _ (known-spot : eqb spot unknownRow ≡ false) where
+    pub refers : is-wrong ≡ false → (namesBlock (classOf c) ≡ true → c .number ≤ length before) → Refers before c
     unfolding wrong wrongSort
     refers e there =
         record {
@@ -58,34 +58,34 @@ module _ (limits : Limits) (place n : ℕ) (before : List Block) (c : Connector)
               λ h.
               let l = there h in
               let less : c .number < length before + 1 = omega arith in
-              let named : (names (classOf c) && ltb (c .number) (length before + 1)) ≡ true = and-iff _ _ .1 (h, lt-ltb _ _ less) in
-              let known : not (eqb place unknownRow) ≡ true = ap not known-place in
-              let sort = or-false (misfits limits place n c) _ .0 e .1 in
+              let named : (namesBlock (classOf c) && ltb (c .number) (length before + 1)) ≡ true = and-iff _ _ .1 (h, lt-ltb _ _ less) in
+              let known : not (eqb spot unknownRow) ≡ true = ap not known-spot in
+              let sort = or-false (misfits limits spot n c) _ .0 e .1 in
               same-bit _ _ .0 (not-is _ .0 (and-false _ _ .0 (and-false _ _ .0 sort named) known));
         }
 
-  pub not-wrong : Allowed limits place n c → Refers before c → is-wrong ≡ false
+  pub not-wrong : Allowed limits spot n c → Refers before c → is-wrong ≡ false
   unfolding wrong misfits wrongSort
   not-wrong a r =
       let k = classOf c in
-      or-false (misfits limits place n c) _ .1 (
-        or-false (not (member k (takes place))) _ .1 (
+      or-false (misfits limits spot n c) _ .1 (
+        or-false (not (member k (takes spot))) _ .1 (
           not-is _ .1 (a .class),
           or-false (isInverted c && not (inverts k)) _ .1 (
             and-false _ _ .1 (λ h. not-is _ .1 (a .inversion (leb-true _ _ h))),
             or-false (ltb (c .number) (least k)) _ .1 (le-ltb _ _ (a .low), le-ltb _ _ (a .high)),
           ),
         ),
-        and-false (names k && ltb (c .number) (length before + 1)) _ .1
-            (λ h. and-false (not (eqb place unknownRow)) _ .1 (λ p. not-is _ .1 (same-bit _ _ .1 (r .right-sort (and-iff _ _ .0 h .0))))),
+        and-false (namesBlock k && ltb (c .number) (length before + 1)) _ .1
+            (λ h. and-false (not (eqb spot unknownRow)) _ .1 (λ p. not-is _ .1 (same-bit _ _ .1 (r .right-sort (and-iff _ _ .0 h .0))))),
       )
 
 -- no own or later block is named
-pub not-later : (count : ℕ) (c : Connector) → (later (count + 1) c ≡ false) ↔ (names (classOf c) ≡ true → c .number ≤ count)
+pub not-later : (count : ℕ) (c : Connector) → (later (count + 1) c ≡ false) ↔ (namesBlock (classOf c) ≡ true → c .number ≤ count)
 unfolding later
 not-later count c = (
-  λ e h. let l : c .number < count + 1 = leb-false _ _ (and-false (names (classOf c)) _ .0 e h) in omega arith,
-  λ f. and-false (names (classOf c)) _ .1 (λ h. let l = f h in let m : c .number < count + 1 = omega arith in lt-leb _ _ m),
+  λ e h. let l : c .number < count + 1 = leb-false _ _ (and-false (namesBlock (classOf c)) _ .0 e h) in omega arith,
+  λ f. and-false (namesBlock (classOf c)) _ .1 (λ h. let l = f h in let m : c .number < count + 1 = omega arith in lt-leb _ _ m),
 )
 
 pub none-of : (f : Connector → Bool) (l : List Connector) → (anyOf f l ≡ false) ↔ All (λ c. f c ≡ false) l
@@ -158,14 +158,14 @@ module _ (kind : ℕ) (vs : List ℤ) where
 -- ---- destinations and shift registers
 
 -- a known destination has a known class
-pub known-place : (limits : Limits) (class number : ℕ) → Known limits class number → eqb (placeOf class) unknownRow ≡ false
-unfolding limitOf placeOf
-known-place limits zero number d = let l = d .low in let h = d .high in let z : ⊥ = omega arith in absurd z
-known-place limits (suc zero) number d = refl
-known-place limits (suc (suc zero)) number d = refl
-known-place limits (suc (suc (suc zero))) number d = refl
-known-place limits (suc (suc (suc (suc zero)))) number d = refl
-known-place limits (suc (suc (suc (suc (suc k))))) number d = let l = d .low in let h = d .high in let z : ⊥ = omega arith in absurd z
+pub known-spot : (limits : Limits) (class number : ℕ) → Known limits class number → eqb (spotOf class) unknownRow ≡ false
+unfolding limitOf spotOf
+known-spot limits zero number d = let l = d .low in let h = d .high in let z : ⊥ = omega arith in absurd z
+known-spot limits (suc zero) number d = refl
+known-spot limits (suc (suc zero)) number d = refl
+known-spot limits (suc (suc (suc zero))) number d = refl
+known-spot limits (suc (suc (suc (suc zero)))) number d = refl
+known-spot limits (suc (suc (suc (suc (suc k))))) number d = let l = d .low in let h = d .high in let z : ⊥ = omega arith in absurd z
 
 pub apart : (x : ℤ) (l : List Block) → (indexUsed x l ≡ false) ↔ All (Apart x) l
 unfolding indexUsed

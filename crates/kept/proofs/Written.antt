@@ -52,9 +52,9 @@ unfolding kinds
 kind-small kind h = omega arith
 
 module _ (limits : Limits) (n : ℕ) where
-  connector-small : (place : ℕ) (c : Connector) → Allowed limits place n c → Small (connectorBytes c)
+  connector-small : (spot : ℕ) (c : Connector) → Allowed limits spot n c → Small (connectorBytes c)
   unfolding connectorBytes
-  connector-small place c a = (a .byte, bytes-small 2 (c .number))
+  connector-small spot c a = (a .byte, bytes-small 2 (c .number))
 
   signeds-small : (l : List ℤ) → Small (joined signedBytes l)
   unfolding signedBytes

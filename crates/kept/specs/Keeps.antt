@@ -14,9 +14,9 @@ use Rattle.words.specs.Signed.{over}
 use Rattle.kinds.specs.Time.{longest}
 use Rattle.kinds.specs.Kinds.{Kind, In, _to_, kinds, kindOf, parameter}
 use Rattle.refusals.specs.declared.Limits.{Limits}
-use Rattle.connectors.specs.Connectors.{Connector, classOf, member, takes, inverts, least, greatest, names, namesAnalog, digitalInput, analogInput}
+use Rattle.connectors.specs.Connectors.{Connector, classOf, member, takes, inverts, least, greatest, namesBlock, namesAnalog, digitalInput, analogInput}
 use Rattle.blockfield.specs.BlockField.{mostOption, shiftRegister}
-use Rattle.fields.specs.Fields.{limitOf, placeOf}
+use Rattle.fields.specs.Fields.{limitOf, spotOf}
 use Rattle.decoding.specs.Decoded.{Block, Row, Circuit, sortsOf, indexOf}
 
 -- ---- lists
@@ -46,29 +46,33 @@ Bytes s = (i : ℕ) → getD s i 0 < 256
 
 -- ---- connectors
 
--- by where it stands, in a circuit of n blocks
-pub record Allowed (limits : Limits) (place n : ℕ) (c : Connector) : Type 0 where
+-- at a spot, in a circuit of n blocks
+pub record Allowed (limits : Limits) (spot n : ℕ) (c : Connector) : Type 0 where
+  -- "a class byte and a two-byte number"
   pub byte : c .class < 256
-  pub class : member (classOf c) (takes place) ≡ true
+  pub fits : c .number < 65536
+  -- "Digital inputs take classes 0 to 4 and 6, analog inputs 7 to 9"; "A row's connector may not be unused"
+  pub class : member (classOf c) (takes spot) ≡ true
   -- "Adding 0x80 inverts; allowed on 1, 2, 3, 4, 6 only"
   pub inversion : 128 ≤ c .class → inverts (classOf c) ≡ true
+  -- "0 unused (number 0), 1 input I 1..24, 2 lo (0), 3 hi (0), 4 flag M 1..64, 6 digital block, 7 analog input 1..8, 8 analog flag AM
+  -- 1..64, 9 analog block"
   pub low : least (classOf c) ≤ c .number
   pub high : c .number ≤ greatest limits n (classOf c)
-  -- two bytes hold it
-  pub fits : c .number < 65536
 
--- a connector that names a block names one of these, of the sort that its class says
+-- "6 digital block", "9 analog block": a connector that names a block names one of these, of the sort that its class says
 pub record Refers (blocks : List Block) (c : Connector) : Type 0 where
-  pub there : names (classOf c) ≡ true → c .number ≤ length blocks
-  pub right-sort : names (classOf c) ≡ true → getD (false ∷ sortsOf blocks) (c .number) false ≡ namesAnalog (classOf c)
+  pub there : namesBlock (classOf c) ≡ true → c .number ≤ length blocks
+  pub right-sort : namesBlock (classOf c) ≡ true → getD (false ∷ sortsOf blocks) (c .number) false ≡ namesAnalog (classOf c)
 
 -- ---- parameters
 
 pub record Parameters (k : Kind) (vs : List ℤ) : Type 0 where
   -- "signed, four bytes each"
   pub fit : All (SFits w32) vs
+  -- as many as the kind has, each in its range
   pub ranges : Match In (k .parameters) vs
-  -- each setting behind the timebase is in the timebase's range
+  -- "0 seconds (T 0..9999, hundredths), 1 minutes (0..5999 seconds), 2 hours (0..5999 minutes)": each setting behind the timebase
   pub settings : (j : ℕ) → 1 ≤ j → j ≤ k .times → In (pos 0 to pos (longest (over (parameter vs 0)))) (parameter vs j)
 
 -- ---- blocks
@@ -78,6 +82,7 @@ pub record Label (bytes : List ℕ) : Type 0 where
   pub short : length bytes ≤ 16
   pub are-bytes : All (λ b. b < 256) bytes
 
+-- without a label, or with one
 abbrev pub Labelled : Option (List ℕ) → Type 0
 Labelled none = Unit {0}
 Labelled (some x) = Label x
@@ -86,7 +91,9 @@ pub record BlockKeeps (limits : Limits) (n : ℕ) (b : Block) : Type 0 where
   -- "Sixteen kinds"
   pub kind-low : 1 ≤ b .kind
   pub kind-high : b .kind < length kinds
+  -- "Option bit 0 is retentive, allowed on kinds 9 to 12; other bits are 0"
   pub option : b .option ≤ mostOption (kindOf (b .kind))
+  -- "each with its inputs in this order", the digital ones first, "then its parameters"
   pub inputs : length (b .inputs) ≡ kindOf (b .kind) .digitals + kindOf (b .kind) .analogs
   pub digitals : All (Allowed limits digitalInput n) (take (kindOf (b .kind) .digitals) (b .inputs))
   pub analogs : All (Allowed limits analogInput n) (drop (kindOf (b .kind) .digitals) (b .inputs))
@@ -107,12 +114,14 @@ OwnIndex before b = b .kind ≡ shiftRegister → All (Apart (indexOf b)) before
 
 -- ---- rows
 
+-- "Destinations: 1 Q 1..20, 2 M 1..64 (digital connector); 3 AQ 1..8, 4 AM 1..64 (analog connector)". Other classes have no number
 pub record RowKeeps (limits : Limits) (n : ℕ) (r : Row) : Type 0 where
   pub low : 1 ≤ r .number
   pub high : r .number ≤ limitOf limits (r .class)
   -- a byte holds it
   pub fits : r .number < 256
-  pub from : Allowed limits (placeOf (r .class)) n (r .from)
+  -- "A row's connector may not be unused"
+  pub from : Allowed limits (spotOf (r .class)) n (r .from)
 
 -- another destination
 pub record Other (r a : Row) : Type 0 where
@@ -125,15 +134,19 @@ Once before r = All (Other r) before
 -- ---- the circuit
 
 pub record Keeps (limits : Limits) (c : Circuit) : Type 0 where
+  -- "version (1)"
   pub version : c .version ≡ 1
+  -- "number of blocks n"
   pub count : c .n ≡ length (c .blocks)
+  -- "0 to 400 (ours)"
   pub few : c .n ≤ limits .blocks
-  -- two bytes hold it
+  -- "in two bytes"
   pub fits : c .n < 65536
   pub blocks : All (BlockKeeps limits (c .n)) (c .blocks)
   pub references : Each Earlier (c .blocks)
   pub registers : Each OwnIndex (c .blocks)
   pub rows : All (RowKeeps limits (c .n)) (c .rows)
+  -- "A row's connector .. may name any block"
   pub sources : All (λ r. Refers (c .blocks) (r .from)) (c .rows)
   pub destinations : Each Once (c .rows)
 

@@ -8,8 +8,7 @@ use lib.Dec.{eqb}
 use lib.IntN.{ℤ}
 use Rattle.kinds.specs.Kinds.{kindOf}
 use Rattle.connectors.specs.Connectors.{connectorAt, connectorsAt}
-use Rattle.blockfield.specs.BlockField.{kindAt, optionAt, parametersAt}
-use Rattle.blockfield.specs.Marked.{fourOf}
+use Rattle.blockfield.specs.BlockField.{kindAt, optionAt, parametersAt, fourOf}
 use Rattle.decoding.specs.Decoded.{blockAt}
 use Rattle.blocks.specs.Blocks.{prepared}
 use Rattle.blocks.specs.declared.Prepared.{Prepared}

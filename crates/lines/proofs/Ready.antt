@@ -9,7 +9,7 @@ use lib.Seq.{getD-take, getD-drop}
 use Rattle.kinds.specs.Kinds.{kindOf}
 use Rattle.refusals.specs.declared.Limits.{Limits}
 use Rattle.connectors.specs.Connectors.{digitalInput, analogInput}
-use Rattle.blockfield.specs.Marked.{fourOf}
+use Rattle.blockfield.specs.BlockField.{fourOf}
 use Rattle.blockfield.proofs.Laws.{allowed-four}
 use Rattle.decoding.specs.Decoded.{Block, Circuit, blockAt}
 use Rattle.decoding.specs.Held.{bare}

@@ -13,8 +13,8 @@ use Rattle.kinds.specs.Kinds.{Kind, kinds, kindOf, scaled, timed, indexed, chos
 use Rattle.kinds.specs.Time.{settingOf, ticksOf}
 use Rattle.kinds.proofs.Rows.{each-kind}
 use Rattle.kinds.proofs.Allowed.{base-in, time-in}
-use Rattle.blockfield.specs.BlockField.{kindAt, parametersFrom, parametersAt, signedAt}
-use Rattle.blockfield.specs.Marked.{fourOf, Lies}
+use Rattle.blockfield.specs.BlockField.{kindAt, parametersFrom, parametersAt, fourOf, signedAt}
+use Rattle.blockfield.specs.Marked.{Lies}
 use Rattle.blockfield.proofs.Laws.{signed-in}
 use Rattle.decoding.specs.Decoded.{blockAt}
 use Rattle.blocks.specs.Blocks.{ticks, timeOf, prepared}

@@ -8,7 +8,7 @@ use lib.ListN.{getD}
 use Rattle.kinds.specs.Kinds.{kindOf, known}
 use Rattle.refusals.specs.declared.Limits.{Limits}
 use Rattle.connectors.specs.Connectors.{Connector, digitalInput, analogInput}
-use Rattle.blockfield.specs.Marked.{fourOf}
+use Rattle.blockfield.specs.BlockField.{fourOf}
 use Rattle.decoding.specs.Decoded.{Block}
 use Rattle.blocks.specs.Blocks.{prepared, Fit}
 use Rattle.kept.specs.Keeps.{Allowed, Refers}

@@ -7,13 +7,9 @@ use native.Mathlib.Omega.{arith}
 use borrow.Author.Tests.{leb-true}
 use lib.Dec.{leb}
 use Rattle.words.proofs.Bounds.{and-true}
-use Rattle.refusals.specs.Faults.{Fault, lowest, risesFrom, rises}
-use Rattle.refusals.specs.Limited.{ours, Modest}
-
--- a number is at most each one of a list that holds
-abbrev pub AtMost : ℕ → List Fault → Type 0
-AtMost k [] = Unit {0}
-AtMost k (f ∷ l) = (f .holds ≡ true → k ≤ f .number) × AtMost k l
+use Rattle.refusals.specs.Faults.{Fault, lowest, AtMost, risesFrom, rises}
+use Rattle.refusals.specs.Limited.{ours}
+use Rattle.refusals.specs.Modest.{Modest}
 
 -- what rises from a number on is not below it
 from-on : (k j : ℕ) (l : List Fault) → j ≤ k → risesFrom k l ≡ true → AtMost j l

@@ -6,6 +6,6 @@ use Rattle.refusals.specs.declared.Answer.{Answer}
 abbrev pub refusedAt : ℕ → ℕ → Answer
 refusedAt number place = record { number = number; place = place; first = 0; second = 0 }
 
--- place is 0
+-- refusal number and place are 0
 abbrev pub acceptedWith : ℕ → ℕ → Answer
 acceptedWith first second = record { number = 0; place = 0; first = first; second = second }

@@ -1,5 +1,7 @@
--- Document 01, "Refusal numbers and their order": "The first field with a fault is named, with the lowest number that holds for it".
-use Prim.Native.Nat.{ℕ}
+-- Document 01, "Refusal numbers and their order": "The first field with a fault is named, with the lowest number that holds for
+-- it; then 20 to 24 in order."
+use Prim.Native.Nat.{ℕ, _≤_}
+use mathlib.Core.Path.{_≡_}
 use mathlib.Core.Bool.{Bool, true, cond, _&&_}
 use mathlib.Core.List.{List, [], _∷_}
 use lib.Dec.{leb}
@@ -13,15 +15,22 @@ infix 70 _when_
 abbrev pub _when_ : ℕ → Bool → Fault
 k when b = record { number = k; holds = b }
 
--- the first that holds, and 0 where none does: the lowest, as the numbers of a field's list rise (`least-of-rising`)
+-- the first that holds, and 0 where none does. It is the lowest, as the numbers of a field's list, and of a call's, rise
+-- (`field-lowest`, `refusal-lowest`)
 abbrev pub lowest : List Fault → ℕ
 lowest [] = 0
 lowest (f ∷ l) = cond (f .holds) (f .number) (lowest l)
 
--- no number of a list is below one before it
+-- none of a list's numbers that hold is below k
+abbrev pub AtMost : ℕ → List Fault → Type 0
+AtMost k [] = Unit {0}
+AtMost k (f ∷ l) = (f .holds ≡ true → k ≤ f .number) × AtMost k l
+
+-- no number of a list is below k, nor below one before it
 abbrev pub risesFrom : ℕ → List Fault → Bool
 risesFrom k [] = true
 risesFrom k (f ∷ l) = leb k (f .number) && risesFrom (f .number) l
 
+-- none is 0, nor below one before it
 abbrev pub rises : List Fault → Bool
 rises l = risesFrom 1 l

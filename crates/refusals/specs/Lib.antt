@@ -2,3 +2,4 @@ pub mod Faults
 pub mod Stages
 pub mod Limited
 pub mod Answers
+pub mod Modest

@@ -2,22 +2,22 @@
 -- may come next.
 use Prim.Native.Nat.{ℕ}
 
--- the header
+-- only the header may come next
 abbrev pub opening : ℕ
 opening = 0
 
--- a block, a row, the end
+-- a block, a row or the end may
 abbrev pub amongBlocks : ℕ
 amongBlocks = 1
 
--- and a label
+-- these, or a label
 abbrev pub afterBlock : ℕ
 afterBlock = 2
 
--- a row, the end
+-- a row or the end may
 abbrev pub amongRows : ℕ
 amongRows = 3
 
--- nothing
+-- nothing may: the end field was read, and no field is judged behind it
 abbrev pub ended : ℕ
 ended = 4

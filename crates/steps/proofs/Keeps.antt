@@ -14,7 +14,7 @@ use borrow.Author.Tests.{ltb-true, ltb-false, eqb-true, eqb-false}
 use Rattle.words.specs.Signed.{over, Between}
 use Rattle.words.proofs.Bounds.{between-sides, sides-between}
 use Rattle.kinds.specs.Kinds.{Sort, digital, analog, In, sixteen, sortRange, kindOf}
-use Rattle.connectors.specs.Connectors.{Connector, classOf, names}
+use Rattle.connectors.specs.Connectors.{Connector, classOf, namesBlock}
 use Rattle.kept.specs.Keeps.{All}
 use Rattle.blocks.specs.Blocks.{Sixteen, ticks}
 use Rattle.blocks.specs.Blocks as blocks
@@ -37,11 +37,11 @@ pub data Connects (c : Connector) : Type 0 where
   to-flag : classOf c ≡ 4 → sourceOf c ≡ some (flag (c .number)) → Connects c
   to-analog : classOf c ≡ 7 → sourceOf c ≡ some (places.analog (c .number)) → Connects c
   to-analogFlag : classOf c ≡ 8 → sourceOf c ≡ some (analogFlag (c .number)) → Connects c
-  to-block : names (classOf c) ≡ true → sourceOf c ≡ some (output (c .number)) → Connects c
+  to-block : namesBlock (classOf c) ≡ true → sourceOf c ≡ some (output (c .number)) → Connects c
 
 module _ (c : Connector) where
   by-class : (k : ℕ) → classOf c ≡ k → Connects c
-  unfolding sourceOf names
+  unfolding sourceOf namesBlock
   by-class zero e = to-nothing (rw e)
   by-class (suc zero) e = to-input e (reads-input c e)
   by-class (suc (suc zero)) e = to-nothing (rw e)

@@ -12,7 +12,7 @@ use lib.IntN.{ℤ, pos}
 use borrow.Author.Tests.{ltb-true, ltb-false}
 use Rattle.words.specs.Signed.{over}
 use Rattle.rules.specs.declared.BlockWords.{BlockWords}
-use Rattle.connectors.specs.Connectors.{Connector, classOf, names}
+use Rattle.connectors.specs.Connectors.{Connector, classOf, namesBlock}
 use Rattle.blocks.specs.Blocks.{ticks, workedOut}
 use Rattle.kept.specs.Keeps.{All}
 use Rattle.kept.proofs.Lists.{all-map}
@@ -91,7 +91,7 @@ Before k p = indexOf p < indexOf (output k)
 
 -- a connector that names a block names one before block k
 pub record Names (k : ℕ) (c : Connector) : Type 0 where
-  pub earlier : names (classOf c) ≡ true → c .number < k
+  pub earlier : namesBlock (classOf c) ≡ true → c .number < k
 
 module _ (k : ℕ) (low : 1 ≤ k) where
   source-before : (c : Connector) → Wired c → Names k c → Connects c → All (Before k) (orNone (sourceOf c) [])

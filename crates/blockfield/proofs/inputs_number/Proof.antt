@@ -40,7 +40,7 @@ unfolding wrongInputs laterInputs
 returns c =
     let a = c .before .before .before .before .before .before .args in
     let k = kindOf (a .kind) in
-    let number : ℕ → ℕ → ℕ → ℕ = λ place from count. numberOf (a .limits) place (a .own) (a .n) (a .sorts .now) (a .bytes .now) 0 0 from count in
+    let number : ℕ → ℕ → ℕ → ℕ = λ spot from count. numberOf (a .limits) spot (a .own) (a .n) (a .sorts .now) (a .bytes .now) 0 0 from count in
     c .lower .ensures
     ∙ ap₂ lower
     (c .before .before .inputs .ensures ∙ ap (number digitalInput (a .at + 5)) (c .before .before .before .before .digital-inputs .ensures .0))

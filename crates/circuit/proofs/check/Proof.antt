@@ -1,6 +1,6 @@
 -- `circuit::check` meets its contract: the answer of the verdict, at our limits. Assumes nothing.
 use mathlib.Core.Path.{refl, sym, _∙_, ap, subst}
-use Rattle.refusals.specs.Limited.{Modest}
+use Rattle.refusals.specs.Modest.{Modest}
 use Rattle.refusals.specs.declared.Limits.{Limits}
 use Rattle.refusals.proofs.Laws.{ours-modest}
 use Rattle.circuit.specs.Circuit.{answerAt}

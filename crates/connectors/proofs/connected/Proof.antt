@@ -4,8 +4,8 @@ use mathlib.Core.Path.{sym, _∙_}
 use Prim.Native.Nat.{_%_}
 use native.Mathlib.Omega.{arith}
 use borrow.Author.Tests.{not-true, not-false}
-use Rattle.connectors.specs.Connectors.{wrong, misfits, wrongSort, later, sixOrSeven}
-use Rattle.connectors.specs.Named.{namedNumber}
+use Rattle.connectors.specs.Connectors.{wrong, misfits, wrongSort, later}
+use Rattle.connectors.specs.Named.{sixOrSeven, namedNumber}
 use Rattle.connectors.proofs.Laws.{takes-above, names-least, names-greatest}
 use borrow.Author.Needs.{needs}
 use Rattle.connectors.proofs.connected.Statement.{statement}
@@ -13,7 +13,7 @@ use Rattle.connectors.proofs.connected.Tie as tie
 
 returns : tie.Need-returns
 unfolding wrong misfits sixOrSeven
-returns c = simp (takes-above (c .before .args .place) (c .before .args .byte % 128) (c .if1 .taken))
+returns c = simp (takes-above (c .before .args .spot) (c .before .args .byte % 128) (c .if1 .taken))
 
 takes-class-requires : tie.Need-takes-class-requires
 takes-class-requires c κs = search needs

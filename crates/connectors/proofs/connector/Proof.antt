@@ -1,7 +1,8 @@
 -- `connectors::connector` meets its contract: its byte and its number are read, then judged. Assumes nothing.
 use mathlib.Core.Path.{ap₂, _∙_}
 use Prim.Native.Nat.{ℕ}
-use Rattle.connectors.specs.Connectors.{Connector, wrong, later, sixOrSeven}
+use Rattle.connectors.specs.Connectors.{Connector, wrong, later}
+use Rattle.connectors.specs.Named.{sixOrSeven}
 use borrow.Author.Needs.{needs}
 use Rattle.connectors.proofs.connector.Statement.{statement}
 use Rattle.connectors.proofs.connector.Tie as tie
@@ -22,7 +23,7 @@ returns : tie.Need-returns
 returns c =
     let a = c .before .before .before .before .args in
     let number : Connector → ℕ =
-    λ x. sixOrSeven (wrong (a .limits) (a .place) (a .own) (a .n) (a .sorts .now) x) (later (a .own) x) in
+    λ x. sixOrSeven (wrong (a .limits) (a .spot) (a .own) (a .n) (a .sorts .now) x) (later (a .own) x) in
     c .connected .ensures
     ∙ ap₂ (λ (x y : ℕ). number (record { class = x; number = y })) (c .before .before .byte-at .ensures .0) (c .before .two-at .ensures .0)
 

@@ -10,10 +10,10 @@ use Rattle.connectors.proofs.inputs.Statement.{statement}
 use Rattle.connectors.proofs.inputs.Tie as tie
 
 abbrev Inv-loop : tie.InvT-loop
-Inv-loop limits bytes at count place own n sorts left₀ worst₀ left worst = (left ≤ count) × (worst ≡ numberOf limits place own n sorts bytes at count (at + 3 * left) (count - left))
+Inv-loop limits bytes at count spot own n sorts left₀ worst₀ left worst = (left ≤ count) × (worst ≡ numberOf limits spot own n sorts bytes at count (at + 3 * left) (count - left))
 
 abbrev μ-loop : tie.MeasureT-loop
-μ-loop limits bytes at count place own n sorts left₀ worst₀ left worst = left
+μ-loop limits bytes at count spot own n sorts left₀ worst₀ left worst = left
 
 loop-holds : tie.Need-loop-holds Inv-loop μ-loop
 loop-holds c = (omega arith, inputs-none _ _ _ _ _ _ _ _)
@@ -42,14 +42,14 @@ loop-again c =
       omega arith,
       c .lower .ensures
           ∙ ap₂ lower (c .before .connector .ensures) (c .before .before .before .loop .inv .1)
-          ∙ inputs-more (a .limits) (a .place) (a .own) (a .n) (a .sorts .now) (a .bytes .now) (a .at) (a .count) (c .before .before .before .loop .left) (c .before .before .loop-test .taken) (c .before .before .before .loop .inv .0),
+          ∙ inputs-more (a .limits) (a .spot) (a .own) (a .n) (a .sorts .now) (a .bytes .now) (a .at) (a .count) (c .before .before .before .loop .left) (c .before .before .loop-test .taken) (c .before .before .before .loop .inv .0),
     )
 
 returns : tie.Need-returns Inv-loop μ-loop
 returns c =
     let a = c .before .before .before .args in
     let z : c .before .loop .left ≡ 0 = omega arith in
-    c .before .loop .inv .1 ∙ inputs-all (a .limits) (a .place) (a .own) (a .n) (a .sorts .now) (a .bytes .now) (a .at) (a .count) (c .before .loop .left) z
+    c .before .loop .inv .1 ∙ inputs-all (a .limits) (a .spot) (a .own) (a .n) (a .sorts .now) (a .bytes .now) (a .at) (a .count) (c .before .loop .left) z
 
 pub inputs-spec : {M : Type 1} → statement M
 inputs-spec =

@@ -1,8 +1,7 @@
 -- `connectors::named` meets its contract: the tests come in the order of the numbers, and each one decides. Assumes nothing.
 use mathlib.Core.Bool.{false}
 use borrow.Author.Tests.{lt-ltb, le-ltb, lt-leb, le-leb, eq-eqb, ne-eqb}
-use Rattle.connectors.specs.Connectors.{sixOrSeven}
-use Rattle.connectors.specs.Named.{namedNumber}
+use Rattle.connectors.specs.Named.{sixOrSeven, namedNumber}
 use Rattle.connectors.proofs.Laws.{getD-pred}
 use borrow.Author.Needs.{needs}
 use Rattle.connectors.proofs.named.Statement.{statement}

@@ -14,7 +14,7 @@ shr-result : tie.Need-shr-result
 shr-result c = search needs
 
 returns : tie.Need-returns
-returns c = takes-bits (c .args .place) (c .args .class) (c .pre .0) (c .pre .1)
+returns c = takes-bits (c .args .spot) (c .args .class) (c .pre .0) (c .pre .1)
 
 pub takes-class-spec : {M : Type 1} → statement M
 takes-class-spec = tie.close (tie.spec mul-result add-result shr-result returns)

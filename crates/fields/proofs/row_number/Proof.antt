@@ -32,8 +32,8 @@ add-byte-at c = search needs
 byte-at-requires : tie.Need-byte-at-requires
 byte-at-requires c κs = search needs
 
-place-of-requires : tie.Need-place-of-requires
-place-of-requires c κs = search needs
+spot-of-requires : tie.Need-spot-of-requires
+spot-of-requires c κs = search needs
 
 add-connector : tie.Need-add-connector
 add-connector c = search needs
@@ -49,7 +49,7 @@ unfolding rowFaults
 returns-4 c =
     let a = c .before .before .before .before .before .before .before .before .args in
     let own : a .n < a .blocks + 1 = omega arith in
-    let w = row-wrong (a .limits) (a .bytes .now) (a .at) (a .n) (a .blocks + 1) (a .sorts .now) _ _ _ (c .before .before .before .byte-at .ensures .0) (c .before .before .place-of .ensures .0) (c .before .connector .ensures) own (c .if4 .taken) in
+    let w = row-wrong (a .limits) (a .bytes .now) (a .at) (a .n) (a .blocks + 1) (a .sorts .now) _ _ _ (c .before .before .before .byte-at .ensures .0) (c .before .before .spot-of .ensures .0) (c .before .connector .ensures) own (c .if4 .taken) in
     simp (ne-eqb _ _ (c .before .before .before .before .before .before .if1 .left), eq-eqb _ _ (c .before .before .before .before .before .if2 .left), le-ltb _ _ (c .before .before .before .before .if3 .left), w)
 
 -- ---- from here on only the destination is left to judge
@@ -58,7 +58,7 @@ left : (c : tie.Else4) (used : Bool) → cond (unknown (c .before .before .befor
 unfolding rowFaults
 left c used =
     let a = c .before .before .before .before .before .before .before .before .args in
-    let w = row-right (a .limits) (a .bytes .now) (a .at) (a .n) (a .blocks + 1) (a .sorts .now) _ _ _ (c .before .before .before .byte-at .ensures .0) (c .before .before .place-of .ensures .0) (c .before .connector .ensures) (c .if4 .left) in
+    let w = row-right (a .limits) (a .bytes .now) (a .at) (a .n) (a .blocks + 1) (a .sorts .now) _ _ _ (c .before .before .before .byte-at .ensures .0) (c .before .before .spot-of .ensures .0) (c .before .connector .ensures) (c .if4 .left) in
     simp (ne-eqb _ _ (c .before .before .before .before .before .before .if1 .left), eq-eqb _ _ (c .before .before .before .before .before .if2 .left), le-ltb _ _ (c .before .before .before .before .if3 .left), w)
 
 add-byte-at-2 : tie.Need-add-byte-at-2
@@ -119,7 +119,7 @@ row-number-spec =
     returns-3
     add-byte-at
     byte-at-requires
-    place-of-requires
+    spot-of-requires
     add-connector
     add-connector-2
     connector-requires

@@ -1,7 +1,7 @@
 -- `scan::cold_start` meets its contract: circuit and length are judged, then the words stored. Assumes nothing.
 use native.Mathlib.Omega.{arith}
 use mathlib.Core.Path.{refl, sym, _∙_, subst}
-use Rattle.refusals.specs.Limited.{Modest}
+use Rattle.refusals.specs.Modest.{Modest}
 use Rattle.refusals.proofs.Laws.{ours-modest}
 use Rattle.calls.specs.Calls.{coldStart}
 use Rattle.scan.proofs.Opening.{at-ours, circuit-refused}

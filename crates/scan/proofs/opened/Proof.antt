@@ -1,7 +1,7 @@
 -- `scan::opened` meets its contract: the verdict on the circuit, then on the record. Assumes nothing.
 use Rattle.scan.proofs.Opening.{at-ours, circuit-judged, stands, record-judged}
 use mathlib.Core.Path.{sym, subst}
-use Rattle.refusals.specs.Limited.{Modest}
+use Rattle.refusals.specs.Modest.{Modest}
 use Rattle.refusals.proofs.Laws.{ours-modest}
 use borrow.Author.Needs.{needs}
 use Rattle.scan.proofs.opened.Statement.{statement}
