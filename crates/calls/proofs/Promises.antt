@@ -13,6 +13,7 @@ use Rattle.refusals.specs.Answers.{refusedAt, acceptedWith}
 use Rattle.decoding.specs.Decoded.{Circuit}
 use Rattle.circuit.specs.Circuit.{Verdict, verdict, refused, accepted, answerTo, answerAt}
 use Rattle.circuit.proofs.Listed.{refusal-listed}
+use Rattle.circuit.proofs.Rising.{field-lowest}
 use Rattle.kept.proofs.Exactly.{accepted-exactly, kept-accepted}
 use Rattle.lines.specs.declared.Line.{Line}
 use Rattle.record.specs.Places.{indexOf, placeOf, change}
@@ -153,6 +154,7 @@ pub promises : Promises
 promises =
     record {
       every-call-answers = every-call-answers;
+      lowest-told = (field-lowest ours, on-plan.refusal-lowest);
       accepted-exactly = accepted-exactly ours;
       check-tells = check-tells;
       by-its-rule = by-its-rule;

@@ -7,15 +7,16 @@ use mathlib.Core.Bool.{true, false}
 use mathlib.Core.List.{List, [], _∷_}
 use lib.ListN.{length}
 use lib.IntN.{ℤ, pos}
+use Rattle.refusals.specs.Faults.{AtMost}
 use Rattle.refusals.specs.Limited.{ours}
 use Rattle.refusals.specs.Answers.{refusedAt, acceptedWith}
-use Rattle.decoding.specs.Decoded.{Circuit}
-use Rattle.circuit.specs.Circuit.{verdict, accepted}
+use Rattle.decoding.specs.Decoded.{Circuit, State}
+use Rattle.circuit.specs.Circuit.{fieldFaults, fieldNumber, verdict, accepted}
 use Rattle.kept.specs.Keeps.{Bytes, Keeps, encode}
 use Rattle.record.specs.Places.{done, sizeOf, put}
 use Rattle.record.specs.Sound.{linesOf, inScan}
 use Rattle.steps.specs.Steps.{toGo}
-use Rattle.calls.specs.Calls.{Call, coldStart, latch, run, publish}
+use Rattle.calls.specs.Calls.{Call, coldStart, latch, run, publish, Plan, faults, refusal}
 use Rattle.calls.specs.Play.{AnyCall, check, on, Moment, replyTo, after, play}
 use Rattle.calls.specs.InTurns.{Good, CanLatch, ByTheRules, scanned, Course}
 
@@ -34,6 +35,12 @@ pub data Answered (s : List ℕ) (x : AnyCall) (m : Moment) : Type 0 where
 
 abbrev pub EveryCallAnswers : Type 0
 EveryCallAnswers = (s : List ℕ) (x : AnyCall) (m : Moment) → Answered s x m
+
+-- "with the lowest number that holds": told is the first of a list that holds (`lowest`), and none that holds is below it
+abbrev pub LowestTold : Type 0
+LowestTold =
+    ((s : List ℕ) (at : ℕ) (st : State) → AtMost (fieldNumber ours s at st) (fieldFaults ours s at st))
+    × ((p : Plan) (x : Call) (l : List ℤ) → AtMost (refusal p x l) (faults p x l))
 
 -- ---- demand 2: "A circuit is accepted exactly when it keeps the written rules for fields, connectors, references and parameters; each
 -- block of an accepted circuit then gets the output and memory that its written rule gives."
@@ -99,6 +106,7 @@ CanBeClosed =
 
 pub record Promises : Type 0 where
   pub every-call-answers : EveryCallAnswers
+  pub lowest-told : LowestTold
   pub accepted-exactly : AcceptedExactly
   pub check-tells : CheckTells
   pub by-its-rule : ByItsRule

@@ -4,10 +4,9 @@ use Rattle.words.specs.Bytes.{numberAt, bytesOf}
 use Rattle.kinds.specs.Time.{ticksOf}
 use Rattle.kinds.specs.Kinds.{kinds, kindOf, known, allowed, scaled, timed, indexed}
 use Rattle.rules.specs.Rules.{andEdge, onDelay, offDelay, shiftRegister, actualOf, triggersOn, thresholdTrigger}
-use Rattle.connectors.specs.Connectors.{connectorsAt, member, takes, least, greatest, names, misfits, wrongSort, wrong, later, anyOf}
+use Rattle.connectors.specs.Connectors.{connectorsAt, member, takes, least, greatest, namesBlock, misfits, wrongSort, wrong, later, anyOf}
 use Rattle.blockfield.specs.BlockField.{signedsAt, wrongLength, wrongKind, wrongInputs, laterInputs, blockFaults}
-use Rattle.fields.specs.Fields.{headerFaults, rowFaults, endFaults, limitOf}
-use Rattle.fields.specs.Fields as Fields
+use Rattle.fields.specs.Fields.{headerFaults, rowFaults, endFaults, limitOf, spotOf}
 use Rattle.decoding.specs.Decoded.{indexUsed, destinationUsed}
 use Rattle.circuit.specs.Circuit.{byTag, tagFaults, fieldFaults, fieldNumber, taken, closing, walk, verdictAt, answerTo, answerAt}
 use Rattle.kept.specs.Keeps.{encode, field, connectorBytes, signedBytes, blockContent, rowContent}
@@ -25,9 +24,9 @@ unfolding table
     encode field blockContent rowContent connectorBytes signedBytes bytesOf
     answerAfter recordAfter outputsAfter answerOn recordOn outputsOn refusal faults isReading gives leaves shows
     answerAt answerTo verdictAt walk closing taken fieldNumber fieldFaults tagFaults byTag
-    headerFaults blockFaults rowFaults endFaults limitOf Fields.placeOf destinationUsed indexUsed
+    headerFaults blockFaults rowFaults endFaults limitOf spotOf destinationUsed indexUsed
     wrongLength wrongKind wrongInputs laterInputs signedsAt connectorsAt
-    wrong misfits wrongSort later anyOf member takes least greatest names numberAt
+    wrong misfits wrongSort later anyOf member takes least greatest namesBlock numberAt
     known allowed kindOf kinds scaled timed indexed ticksOf
     linesOf lineOf sound every indexOf placeOf changeFrom
     turned stepsFrom order along step becomes bitsOf valuesOf bitFrom plainBit sourceOf

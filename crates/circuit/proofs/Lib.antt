@@ -2,4 +2,3 @@ pub mod Tags
 pub mod Walk
 pub mod Rising
 pub mod Listed
-pub mod Cases
