@@ -17,7 +17,7 @@ use Rattle.calls.specs.Calls.{latchWord}
 use Rattle.calls.specs.InTurns.{CanLatch, ByTheRules, scanned}
 use Rattle.calls.specs.Promises.{ByItsRule, RulesDecide}
 use Rattle.calls.proofs.Fine.{reads-earlier}
-use Rattle.calls.proofs.InTurns.{one-go-words}
+use Rattle.calls.proofs.InTurns.{one-go-words, one-go-closed}
 
 module _ (s : List ℕ) (c : Circuit) (r : List ℤ) (e : ℤ) (l : List ℤ) (can : CanLatch s c r e l) where
   abbrev lines : List Line
@@ -52,7 +52,8 @@ module _ (s : List ℕ) (c : Circuit) (r : List ℤ) (e : ℤ) (l : List ℤ) (c
       }
 
 pub by-its-rule : ByItsRule
-by-its-rule s c r e before can = (scanned-by s c r e (before .rec) can, one-go-words s c r e before can)
+by-its-rule s c r e before can =
+    (scanned-by s c r e (before .rec) can, one-go-words s c r e before can, one-go-closed s c r e before can)
 
 -- two outcomes that the rules allow are equal
 pub rules-decide : RulesDecide

@@ -9,7 +9,7 @@ use mathlib.Core.Bool.{Bool, true, false, cond, true≢false}
 use mathlib.Core.List.{List, [], _∷_, _++_}
 use lib.Dec.{eqb}
 use lib.ListN.{length, take, drop}
-use lib.Seq.{getD-set-other}
+use lib.Seq.{getD-set-other, length-take-le}
 use lib.IntN.{ℤ, pos}
 use borrow.Author.Tests.{eqb-true, eqb-false}
 use Rattle.words.specs.Signed.{over}
@@ -277,6 +277,12 @@ module _ (s : List ℕ) (c : Circuit) (r : List ℤ) (e : ℤ) (before : Moment)
   -- as latch and one run of everything leave it
   pub one-go-words : play s (on (latch r e) ∷ on (run n) ∷ []) before .last .rec ≡ put w done (pos n)
   one-go-words = ap (λ m. m .rec) (one-run n) ∙ turned-whole n (omega arith)
+
+  pub one-go-closed : 28 ≤ length o
+      → Closed s c r e before 28 (play s (on (latch r e) ∷ on (run n) ∷ on (publish 28) ∷ []) before .last)
+  one-go-closed enough =
+      subst (λ m. Closed s c r e before 28 (after s (on (publish 28)) m)) (sym (one-run n))
+      (closed-by n 28 (closes-by n 28 .1 (omega arith, length-take-le 28 o enough)))
 
   -- ---- the whole
 

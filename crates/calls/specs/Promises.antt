@@ -18,7 +18,7 @@ use Rattle.record.specs.Sound.{linesOf, inScan}
 use Rattle.steps.specs.Steps.{toGo}
 use Rattle.calls.specs.Calls.{Call, coldStart, latch, run, publish, Plan, faults, refusal}
 use Rattle.calls.specs.Play.{AnyCall, check, on, Moment, replyTo, after, play}
-use Rattle.calls.specs.InTurns.{Good, CanLatch, ByTheRules, scanned, Course}
+use Rattle.calls.specs.InTurns.{Good, CanLatch, ByTheRules, scanned, Closed, Course}
 
 -- ---- demand 1: "Every byte string offered as a circuit and every word offered as a record gets an answer. A refusal carries a number and
 -- a place from the fixed list, and no lent word or byte changes."
@@ -52,13 +52,15 @@ AcceptedExactly = (s : List ℕ) → Bytes s → (c : Circuit) → (verdict s �
 abbrev pub CheckTells : Type 0
 CheckTells = (c : Circuit) → Keeps ours c → (m : Moment) → replyTo (encode c) check m ≡ acceptedWith (c .n) (length (c .rows))
 
--- latch and one run of everything leave w, which is what the rules say
+-- latch and one run of everything leave w, which is what the rules say; and then publish every output and flag as the rows say
 abbrev pub ByItsRule : Type 0
 ByItsRule =
     (s : List ℕ) (c : Circuit) (r : List ℤ) (e : ℤ) (before : Moment) → CanLatch s c r e (before .rec)
     → let w = scanned c r e (before .rec) in
     let n = length (linesOf c) in
-    ByTheRules c r e (before .rec) w × (play s (on (latch r e) ∷ on (run n) ∷ []) before .last .rec ≡ put w done (pos n))
+    ByTheRules c r e (before .rec) w
+    × (play s (on (latch r e) ∷ on (run n) ∷ []) before .last .rec ≡ put w done (pos n))
+    × (28 ≤ length (before .outputs) → Closed s c r e before 28 (play s (on (latch r e) ∷ on (run n) ∷ on (publish 28) ∷ []) before .last))
 
 -- and the rules leave one outcome only
 abbrev pub RulesDecide : Type 0
