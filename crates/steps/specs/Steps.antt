@@ -13,10 +13,10 @@ use Rattle.rules.specs.declared.BlockWords.{BlockWords}
 use Rattle.connectors.specs.Connectors.{Connector, classOf, isInverted}
 use Rattle.blocks.specs.Blocks.{ticks, workedOut}
 use Rattle.lines.specs.declared.Line.{Line}
-use Rattle.record.specs.Places.{Place, phase, done, mark, elapsed, input, analog, flag, analogFlag, block, output, remembered, number, word, wordsOf, put, putWords}
+use Rattle.record.specs.Places.{Place, done, elapsed, input, analog, flag, analogFlag, output, remembered, number, word, wordsOf, put, putWords}
 use Rattle.record.specs.Sound.{lineAt}
 
--- ---- which places a block reads, and whose a place is
+-- ---- which places a block reads
 
 -- the place that a connector reads: "0 unused .., 1 input I .., 2 lo .., 3 hi .., 4 flag M .., 6 digital block, 7 analog input .., 8 analog
 -- flag AM .., 9 analog block"
@@ -55,18 +55,6 @@ sources line =
 -- what the step of block k reads: its inputs, its own words, e
 abbrev pub readBy : ℕ → Line → List Place
 readBy k line = output k ∷ remembered k ∷ number k ∷ elapsed ∷ sources line
-
--- the block whose word stands at a place, 0 for none
-abbrev pub owner : Place → ℕ
-owner phase = 0
-owner done = 0
-owner mark = 0
-owner elapsed = 0
-owner (input k) = 0
-owner (analog k) = 0
-owner (flag k) = 0
-owner (analogFlag k) = 0
-owner (block k j) = k
 
 -- ---- the inputs of a block: "resolved together before the rule is applied"
 
