@@ -6,12 +6,12 @@ use mathlib.Core.List.{List, [], _∷_}
 use Prim.Native.Nat.{ℕ}
 use lib.ListN.{replicate}
 use lib.IntN.{ℤ, pos}
-use Rattle.kinds.specs.Time.{ticksOf}
+use Rattle.kinds.specs.Time.{ticks, ticksOf}
 use Rattle.kinds.specs.Kinds.{kinds, kindOf, settingFits}
 use Rattle.kinds.specs.declared.Ticks.{Ticks}
 use Rattle.rules.specs.declared.BlockWords.{BlockWords}
 use Rattle.rules.specs.Rules.{three, andEdge, offDelay}
-use Rattle.blocks.specs.Blocks.{ticks, prepared, rules, workedOut}
+use Rattle.blocks.specs.Blocks.{prepared, rules, workedOut}
 
 -- a block's three words after a cold start
 abbrev fresh : BlockWords

@@ -8,12 +8,12 @@ use borrow.Author.Tests.{eqb-true}
 use lib.Dec.{eqb}
 use lib.IntN.{ℤ}
 use Rattle.kinds.specs.Kinds.{kinds, kindOf, parameter, allowed}
-use Rattle.kinds.specs.Time.{settingOf, ticksOf}
+use Rattle.kinds.specs.Time.{ticks, settingOf, ticksOf}
 use Rattle.kinds.proofs.Allowed.{param-in, ticks-most}
 use Rattle.kinds.specs.declared.Ticks.{Ticks}
 use Rattle.rules.specs.declared.BlockWords.{BlockWords}
 use Rattle.rules.specs.Rules.{bit, onDelay, offDelay, withOff, differentialTrigger}
-use Rattle.blocks.specs.Blocks.{ticks, wasBit, wasOn, wasNumber, timeOf, prepared, rules, workedOut, Fit}
+use Rattle.blocks.specs.Blocks.{wasBit, wasOn, wasNumber, timeOf, prepared, rules, workedOut, Fit}
 
 -- Off aside, the parameters stay as they were
 same-param : (is : Bool) (p : List ℤ) (j : ℕ) → (is ≡ true → j < 3) → parameter (cond is (withOff p) p) j ≡ parameter p j

@@ -7,7 +7,7 @@ use lib.Dec.{eqb}
 use lib.ListN.{getD}
 use lib.IntN.{ℤ, pos}
 use Rattle.words.specs.Signed.{minus, over, bitOf, Between}
-use Rattle.kinds.specs.Time.{settingOf, ticksOf}
+use Rattle.kinds.specs.Time.{ticks, settingOf, ticksOf}
 use Rattle.kinds.specs.Kinds.{Kind, In, kindOf, parameter, rangeAt, outputRange, rememberedRange, numberRange}
 use Rattle.kinds.specs.declared.Ticks.{Ticks}
 use Rattle.rules.specs.declared.BlockWords.{BlockWords}
@@ -15,9 +15,6 @@ use Rattle.blocks.specs.declared.Prepared.{Prepared}
 use Rattle.rules.specs.Rules.{three, bit, andGate, andEdge, nandGate, nandEdge, orGate, norGate, xorGate, notGate, onDelay, offDelay, latchingRelay, shiftRegister, thresholdTrigger, compared, multiplexed, withOff}
 
 -- ---- parameters made ready: the setting in ticks, Off worked out
-
-abbrev pub ticks : ℕ → Ticks
-ticks n = record { 0 = n }
 
 -- by how many settings a kind has
 abbrev pub timeOf : ℕ → List ℤ → Ticks

@@ -5,6 +5,7 @@ use Prim.Native.Nat.{ℕ}
 use native.Mathlib.Nat.{zero-min}
 use lib.IntN.{ℤ, pos}
 use Rattle.words.specs.Signed.{minus, bitOf}
+use Rattle.kinds.specs.Time.{ticks}
 use Rattle.kinds.specs.declared.Ticks.{Ticks}
 use Rattle.rules.specs.Rules.{onDelay, shiftRegister, actualOf, triggersOn}
 
@@ -14,7 +15,7 @@ register r down input = shiftRegister input true down false r 1 .number
 
 pub record RuleCases : Type 0 where
   -- "On-delay, T 0: Q follows Trg at once."
-  pub on-delay : (trg was : Bool) (ta e : Ticks) → bitOf (onDelay trg was ta (record { 0 = 0 }) e .output) ≡ trg
+  pub on-delay : (trg was : Bool) (ta e : Ticks) → bitOf (onDelay trg was ta (ticks 0) e .output) ≡ trg
   -- "Gain −33, input 10, B 0: −3."
   pub gain : actualOf (pos 10) (minus 33) (pos 0) ≡ minus 3
   -- "On = Off = 5: 5 gives 0, 6 gives 1."
@@ -28,7 +29,7 @@ pub record RuleCases : Type 0 where
   pub down-in-0 : register 128 true false ≡ pos 64
   pub down-from-1-in-0 : register 1 true false ≡ pos 0
 
-at-once : (trg was : Bool) (ta e : Ticks) → bitOf (onDelay trg was ta (record { 0 = 0 }) e .output) ≡ trg
+at-once : (trg was : Bool) (ta e : Ticks) → bitOf (onDelay trg was ta (ticks 0) e .output) ≡ trg
 unfolding onDelay
 at-once true true ta e = rw zero-min
 at-once true false ta e = refl

@@ -9,6 +9,7 @@ use lib.IntN.{ℤ, pos, _+ℤ_, _-ℤ_, _*ℤ_}
 use lib.Signed.{ltZ, leZ, quotZ}
 use Rattle.words.specs.Signed.{minus, wordOf, Between}
 use Rattle.kinds.specs.Kinds.{parameter}
+use Rattle.kinds.specs.Time.{ticks}
 use Rattle.kinds.specs.declared.Ticks.{Ticks}
 use Rattle.rules.specs.declared.BlockWords.{BlockWords}
 
@@ -71,22 +72,22 @@ notGate b = shows (not (bit b 0))
 -- ---- the delays: Ta the ticks run, T the ticks set, e the ticks since the last latch
 
 -- "Ta = min(T, Ta + e)"
-abbrev pub grown : Ticks → Ticks → Ticks → ℕ
-grown ta t e = min (t .0) (ta .0 + e .0)
+abbrev pub grown : Ticks → Ticks → Ticks → Ticks
+grown ta t e = ticks (min (t .0) (ta .0 + e .0))
 
 -- "With Trg 1, Q is 1 exactly when Ta = T"; Trg is remembered
-abbrev pub runs : ℕ → Ticks → BlockWords
-runs ta t = gives (eqb ta (t .0)) true ta
+abbrev pub runs : Ticks → Ticks → BlockWords
+runs ta t = gives (eqb (ta .0) (t .0)) true (ta .0)
 
 -- 9 on-delay: "Trg 0: Ta = 0, Q = 0. Trg rises: Ta = 0. Trg stays 1: Ta = min(T, Ta + e)."
 unfoldable pub onDelay : Bool → Bool → Ticks → Ticks → Ticks → BlockWords
 onDelay false was ta t e = gives false false 0
-onDelay true false ta t e = runs 0 t
+onDelay true false ta t e = runs (ticks 0) t
 onDelay true true ta t e = runs (grown ta t e) t
 
 -- "if that is T, Q = 0 and Ta = 0"
-abbrev pub fades : ℕ → Ticks → BlockWords
-fades ta t = cond (eqb ta (t .0)) (gives false false 0) (gives true false ta)
+abbrev pub fades : Ticks → Ticks → BlockWords
+fades ta t = cond (eqb (ta .0) (t .0)) (gives false false 0) (gives true false (ta .0))
 
 -- 10 off-delay, on R, Trg, Trg of the last scan and Q of the last scan: "R: Q = 0, Ta = 0. Else Trg 1: Q = 1, Ta = 0. Else, Trg just
 -- fell: Ta = 0, Q is 1 exactly when it was 1 and T > 0. Else if Q was 1: Ta = min(T, Ta + e); .. Else no change. Trg is remembered in

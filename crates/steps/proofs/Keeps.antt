@@ -14,9 +14,10 @@ use borrow.Author.Tests.{ltb-true, ltb-false, eqb-true, eqb-false}
 use Rattle.words.specs.Signed.{over, Between}
 use Rattle.words.proofs.Bounds.{between-sides, sides-between}
 use Rattle.kinds.specs.Kinds.{Sort, digital, analog, In, sixteen, sortRange, kindOf}
+use Rattle.kinds.specs.Time.{ticks}
 use Rattle.connectors.specs.Connectors.{Connector, classOf, names}
 use Rattle.kept.specs.Keeps.{All}
-use Rattle.blocks.specs.Blocks.{Sixteen, ticks}
+use Rattle.blocks.specs.Blocks.{Sixteen}
 use Rattle.blocks.specs.Blocks as blocks
 use Rattle.blocks.proofs.Stays.{stays-sound}
 use Rattle.lines.specs.declared.Line.{Line}

@@ -11,9 +11,10 @@ use lib.Seq.{ext-getD}
 use lib.IntN.{ℤ, pos}
 use borrow.Author.Tests.{ltb-true, ltb-false}
 use Rattle.words.specs.Signed.{over}
+use Rattle.kinds.specs.Time.{ticks}
 use Rattle.rules.specs.declared.BlockWords.{BlockWords}
 use Rattle.connectors.specs.Connectors.{Connector, classOf, names}
-use Rattle.blocks.specs.Blocks.{ticks, workedOut}
+use Rattle.blocks.specs.Blocks.{workedOut}
 use Rattle.kept.specs.Keeps.{All}
 use Rattle.kept.proofs.Lists.{all-map}
 use Rattle.lines.specs.declared.Line.{Line}

@@ -9,9 +9,10 @@ use lib.ListN.{length, getD, take, drop}
 use lib.IntN.{ℤ, pos}
 use Rattle.words.specs.Signed.{over, bitOf}
 use Rattle.kinds.specs.Kinds.{kindOf}
+use Rattle.kinds.specs.Time.{ticks}
 use Rattle.rules.specs.declared.BlockWords.{BlockWords}
 use Rattle.connectors.specs.Connectors.{Connector, classOf, isInverted}
-use Rattle.blocks.specs.Blocks.{ticks, workedOut}
+use Rattle.blocks.specs.Blocks.{workedOut}
 use Rattle.lines.specs.declared.Line.{Line}
 use Rattle.record.specs.Places.{Place, done, elapsed, input, analog, flag, analogFlag, output, remembered, number, word, wordsOf, put, putWords}
 use Rattle.record.specs.Sound.{lineAt}
