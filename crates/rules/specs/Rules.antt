@@ -7,7 +7,7 @@ use lib.Dec.{ltb, eqb}
 use lib.ListN.{getD}
 use lib.IntN.{ℤ, pos, _+ℤ_, _-ℤ_, _*ℤ_}
 use lib.Signed.{ltZ, leZ, quotZ}
-use Rattle.words.specs.Signed.{minus, wordOf, Between}
+use Rattle.words.specs.Signed.{wordOf}
 use Rattle.kinds.specs.Kinds.{parameter}
 use Rattle.kinds.specs.Time.{ticks}
 use Rattle.kinds.specs.declared.Ticks.{Ticks}
@@ -148,12 +148,6 @@ triggersOn value on off q =
 abbrev pub triggered : ℤ → List ℤ → Bool → BlockWords
 triggered value p q = shows (triggersOn value (parameter p 2) (parameter p 3) q)
 
--- what an input, a gain and an offset may be: the function counts on it, the rule does not
-pub record Scaled (input gain offset : ℤ) : Type 0 where
-  pub input-is : Between (minus 32768) (pos 32767) input
-  pub gain-is : Between (minus 1000) (pos 1000) gain
-  pub offset-is : Between (minus 10000) (pos 10000) offset
-
 -- 13 analog threshold trigger: "on actual Ax"
 unfoldable pub thresholdTrigger : ℤ → List ℤ → Bool → BlockWords
 thresholdTrigger ax p q = triggered (actualOf ax (parameter p 0) (parameter p 1)) p q
@@ -167,10 +161,6 @@ compared ax ay p q =
 unfoldable pub multiplexed : Bool → Bool → Bool → List ℤ → BlockWords
 multiplexed en s1 s2 p = three (cond en (parameter p (2 * digit s1 + digit s2)) (pos 0)) (pos 0) (pos 0)
 
--- of A, B, On, Δ the parameters of 13
+-- 16 differential trigger: "as 13, Off = On + Δ": of A, B, On, Δ the parameters of 13
 abbrev pub withOff : List ℤ → List ℤ
 withOff p = parameter p 0 ∷ parameter p 1 ∷ parameter p 2 ∷ (parameter p 2 +ℤ parameter p 3) ∷ []
-
--- 16 differential trigger: "as 13, Off = On + Δ"
-unfoldable pub differentialTrigger : ℤ → List ℤ → Bool → BlockWords
-differentialTrigger ax p q = thresholdTrigger ax (withOff p) q
