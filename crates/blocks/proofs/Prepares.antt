@@ -13,7 +13,8 @@ use Rattle.kinds.proofs.Allowed.{param-in, ticks-most}
 use Rattle.kinds.specs.declared.Ticks.{Ticks}
 use Rattle.rules.specs.declared.BlockWords.{BlockWords}
 use Rattle.rules.specs.Rules.{bit, onDelay, offDelay, thresholdTrigger, withOff}
-use Rattle.blocks.specs.Blocks.{wasBit, wasOn, wasNumber, timeOf, prepared, rules, workedOut, Fit}
+use Rattle.blocks.specs.Blocks.{wasBit, wasOn, wasNumber, timeOf, prepared, rules, workedOut}
+use Rattle.blocks.specs.Fit.{Fit}
 
 -- Off aside, the parameters stay as they were
 same-param : (is : Bool) (p : List ℤ) (j : ℕ) → (is ≡ true → j < 3) → parameter (cond is (withOff p) p) j ≡ parameter p j

@@ -8,7 +8,7 @@ use native.Mathlib.Omega.{arith}
 use lib.Dec.{ltb, eqb}
 use lib.ListN.{getD}
 use lib.IntN.{ℤ, pos, _-ℤ_}
-use Rattle.words.specs.Signed.{wordOf, Between}
+use Rattle.words.specs.Signed.{wordOf}
 use Rattle.words.proofs.Bounds.{zero-between, count-between, amount-between}
 use Rattle.words.proofs.Bits.{bit-between, word-between}
 use Rattle.kinds.specs.Kinds.{Kind, Sort, digital, analog, none, elapsed, upTo, In, sixteen, delay, latching, shifting, trigger, choosing, kinds, kindOf, chosen, mostOf, parameter, sortRange, outputRange, rememberedRange}
@@ -18,7 +18,8 @@ use Rattle.rules.specs.declared.BlockWords.{BlockWords}
 use Rattle.rules.specs.Rules.{three, gives, shows, bit, allOf, someOf, andGate, andEdge, nandGate, nandEdge, orGate, norGate, xorGate, notGate, grown, onDelay, offDelay, latchingRelay, digit, registerBit, stepped, shiftRegister, actualOf, triggersOn, thresholdTrigger, compared, multiplexed}
 use Rattle.rules.proofs.Register.{shifted-below}
 use Rattle.blocks.specs.declared.Prepared.{Prepared}
-use Rattle.blocks.specs.Blocks.{wasBit, wasOn, wasNumber, Rule, idle, rules, workedOut, Fit, Sound}
+use Rattle.blocks.specs.Blocks.{wasBit, wasOn, wasNumber, Rule, idle, rules, workedOut}
+use Rattle.blocks.specs.Fit.{Fit, Sound}
 
 -- ---- a line for each kind
 

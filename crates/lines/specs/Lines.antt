@@ -10,7 +10,8 @@ use Rattle.refusals.specs.declared.Limits.{Limits}
 use Rattle.connectors.specs.Connectors.{Connector, digitalInput, analogInput}
 use Rattle.blockfield.specs.Marked.{fourOf}
 use Rattle.decoding.specs.Decoded.{Block}
-use Rattle.blocks.specs.Blocks.{prepared, Fit}
+use Rattle.blocks.specs.Blocks.{prepared}
+use Rattle.blocks.specs.Fit.{Fit}
 use Rattle.kept.specs.Keeps.{Allowed, Refers}
 use Rattle.lines.specs.declared.Line.{Line}
 

@@ -17,8 +17,8 @@ use Rattle.kinds.specs.Kinds.{Sort, digital, analog, In, sixteen, sortRange, ki
 use Rattle.kinds.specs.Time.{ticks}
 use Rattle.connectors.specs.Connectors.{Connector, classOf, names}
 use Rattle.kept.specs.Keeps.{All}
-use Rattle.blocks.specs.Blocks.{Sixteen}
-use Rattle.blocks.specs.Blocks as blocks
+use Rattle.blocks.specs.Fit as blocks
+use Rattle.blocks.specs.Fit.{Sixteen}
 use Rattle.blocks.proofs.Stays.{stays-sound}
 use Rattle.lines.specs.declared.Line.{Line}
 use Rattle.record.specs.Places.{elapsed, input, flag, analogFlag, block, output, remembered, number, sizeOf, indexOf, at, word, wordsOf}

@@ -6,9 +6,9 @@ use mathlib.Core.List.{List}
 use lib.ListN.{length, getD}
 use lib.IntN.{ℤ}
 use Rattle.kinds.specs.Kinds.{known}
+use Rattle.blocks.specs.Fit.{Fit, Sixteen}
 use Rattle.connectors.specs.Connectors.{Connector, classOf}
 use Rattle.blockfield.specs.Marked.{Lies}
-use Rattle.blocks.specs.Blocks.{Fit, Sixteen}
 use Rattle.decoding.specs.Decoded.{blockAt}
 use Rattle.lines.specs.Lines.{lineOf}
 use Rattle.lines.specs.declared.Line.{Line}
