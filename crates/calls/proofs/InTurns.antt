@@ -16,9 +16,10 @@ use Rattle.words.specs.Signed.{over}
 use Rattle.words.proofs.Bounds.{and-true, amount-between}
 use Rattle.refusals.specs.Answers.{acceptedWith}
 use Rattle.decoding.specs.Decoded.{Circuit}
+use Rattle.lines.specs.Lines.{linesOf}
 use Rattle.lines.specs.declared.Line.{Line}
 use Rattle.record.specs.Places.{done, sizeOf, indexOf, placeOf, at, word, put, change}
-use Rattle.record.specs.Sound.{linesOf, inScan, isZero}
+use Rattle.record.specs.Sound.{inScan, isZero}
 use Rattle.record.proofs.Located.{Spot, is-phase, is-done, is-mark, is-elapsed, is-input, is-analog, is-flag, is-analogFlag, is-block, spot, change-at}
 use Rattle.record.proofs.Held.{Sound, told}
 use Rattle.steps.specs.Steps.{stepsFrom, doneOf, toGo, turnOf, turned}

@@ -13,8 +13,9 @@ use Rattle.decoding.specs.Decoded.{Circuit}
 use Rattle.circuit.specs.Circuit.{Verdict, verdict, refused, accepted, answerTo, answerAt}
 use Rattle.circuit.proofs.Listed.{refusal-listed}
 use Rattle.kept.proofs.Exactly.{accepted-exactly}
+use Rattle.lines.specs.Lines.{linesOf}
 use Rattle.lines.specs.declared.Line.{Line}
-use Rattle.record.specs.Sound.{linesOf, inScan}
+use Rattle.record.specs.Sound.{inScan}
 use Rattle.record.proofs.Held.{Sound, told, tested}
 use Rattle.steps.specs.Steps.{toGo}
 use Rattle.calls.specs.Calls.{Call, coldStart, warmStart, latch, run, publish, Plan, planOf, refusal, gives, leaves, shows, recordOn, answerAfter, recordAfter, outputsAfter}

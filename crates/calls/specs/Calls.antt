@@ -13,9 +13,10 @@ use Rattle.refusals.specs.Answers.{refusedAt, acceptedWith}
 use Rattle.refusals.specs.declared.Answer.{Answer}
 use Rattle.decoding.specs.Decoded.{Circuit, Row}
 use Rattle.circuit.specs.Circuit.{Verdict, refused, accepted, verdict}
+use Rattle.lines.specs.Lines.{linesOf, lineAt}
 use Rattle.lines.specs.declared.Line.{Line}
 use Rattle.record.specs.Places.{Place, phase, done, mark, elapsed, input, analog, flag, analogFlag, block, owner, sizeOf, at, change}
-use Rattle.record.specs.Sound.{linesOf, lineAt, every, inScan, sound}
+use Rattle.record.specs.Sound.{every, inScan, sound}
 use Rattle.steps.specs.Steps.{toGo, turnOf, turned}
 use Rattle.destinations.specs.Destinations.{outputsOf, publishWord}
 

@@ -12,7 +12,8 @@ use Rattle.refusals.specs.Answers.{refusedAt, acceptedWith}
 use Rattle.decoding.specs.Decoded.{Circuit}
 use Rattle.circuit.specs.Circuit.{verdict, accepted}
 use Rattle.kept.specs.Keeps.{Bytes, Keeps, encode}
-use Rattle.record.specs.Sound.{linesOf, inScan}
+use Rattle.lines.specs.Lines.{linesOf}
+use Rattle.record.specs.Sound.{inScan}
 use Rattle.steps.specs.Steps.{toGo}
 use Rattle.calls.specs.Calls.{coldStart, latch, run, publish}
 use Rattle.calls.specs.Play.{AnyCall, on, Moment, replyTo, after}

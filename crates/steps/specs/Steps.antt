@@ -13,9 +13,9 @@ use Rattle.kinds.specs.Time.{ticks}
 use Rattle.rules.specs.declared.BlockWords.{BlockWords}
 use Rattle.connectors.specs.Connectors.{Connector, classOf, isInverted}
 use Rattle.blocks.specs.Blocks.{workedOut}
+use Rattle.lines.specs.Lines.{lineAt}
 use Rattle.lines.specs.declared.Line.{Line}
 use Rattle.record.specs.Places.{Place, done, elapsed, input, analog, flag, analogFlag, output, remembered, number, word, wordsOf, put, putWords}
-use Rattle.record.specs.Sound.{lineAt}
 
 -- ---- which places a block reads
 

@@ -10,10 +10,10 @@ use Rattle.blocks.specs.Fit.{Fit, Sixteen}
 use Rattle.connectors.specs.Connectors.{Connector, classOf}
 use Rattle.blockfield.specs.Marked.{Lies}
 use Rattle.decoding.specs.Decoded.{blockAt}
-use Rattle.lines.specs.Lines.{lineOf}
+use Rattle.lines.specs.Lines.{lineOf, lineAt}
 use Rattle.lines.specs.declared.Line.{Line}
 use Rattle.record.specs.Places.{sizeOf}
-use Rattle.record.specs.Sound.{lineAt, sound}
+use Rattle.record.specs.Sound.{sound}
 use Rattle.record.specs.Written.{linesAt, Stand}
 use Rattle.steps.specs.Steps.{inputOf, valuesOf}
 
