@@ -22,8 +22,9 @@ use Rattle.lines.specs.Lines.{unused, nth, lineOf, linesOf, noLine, lineAt}
 use Rattle.lines.specs.Ready.{Source, Ready}
 use Rattle.lines.specs.declared.Line.{Line}
 use Rattle.lines.proofs.Ready.{accepted-ready}
-use Rattle.steps.specs.Steps.{inputOf, sources}
+use Rattle.steps.specs.Steps.{inputOf}
 use Rattle.steps.specs.Wired.{Wired, Fine}
+use Rattle.steps.specs.Reads.{sources}
 use Rattle.steps.proofs.Ordered.{Before, ReadsEarlier, Names, sources-before}
 use Rattle.destinations.specs.Slots.{Aimed}
 use Rattle.destinations.proofs.Decided.{rows-fine}
