@@ -1,7 +1,7 @@
 -- The calls on a record: refusals in their order, the answer, and every lent word afterwards. Document 01, "Run record and outputs" and
 -- "Refusal numbers and their order".
 use Prim.Native.Nat.{ℕ, _+_, _-_}
-use mathlib.Core.Bool.{Bool, false, cond, not, _&&_, _||_}
+use mathlib.Core.Bool.{Bool, cond, not, _&&_, _||_}
 use mathlib.Core.List.{List, [], _∷_}
 use lib.Dec.{eqb}
 use lib.ListN.{length}
@@ -77,15 +77,15 @@ latchWord r e (block k j) z = z
 
 -- ---- the refusals: "then 20 to 24 in order"
 
--- "record length"
+-- 20: "record length"
 abbrev pub wrongSize : Plan → List ℤ → Fault
 wrongSize p l = 20 when not (eqb (length l) (sizeOf (length (p .lines))))
 
--- "record not sound (all calls on a record but cold start)"
+-- 21: "record not sound (all calls on a record but cold start)"
 abbrev pub notSound : Plan → List ℤ → Fault
 notSound p l = 21 when not (sound (p .lines) l)
 
--- "latch: not 32 input words, a digital one not 0 or 1, an analog one not 0..1000, e not 0..65,535"
+-- a reading that latch takes; 23: "latch: not 32 input words, a digital one not 0 or 1, an analog one not 0..1000, e not 0..65,535"
 unfoldable pub isReading : List ℤ → ℤ → Bool
 isReading r e =
     eqb (length r) 32
