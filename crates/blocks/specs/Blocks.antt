@@ -15,7 +15,7 @@ use Rattle.blocks.specs.declared.Prepared.{Prepared}
 
 -- ---- parameters made ready: the setting in ticks, Off worked out
 
--- by how many settings a kind has
+-- the ticks set: those of base and T where the kind has a setting, else none
 abbrev pub timeOf : ℕ → List ℤ → Ticks
 timeOf zero p = ticks 0
 timeOf (suc n) p = ticksOf (settingOf (parameter p 0) (parameter p 1))

@@ -1,4 +1,4 @@
--- A block ready to be worked out: its kind, whether it is retentive, four connectors, its parameters made ready.
+-- The line of a block, ready to be worked out: kind, whether retentive, four connectors, parameters made ready. The lines of a circuit.
 use Prim.Native.Nat.{ℕ}
 use mathlib.Core.Bool.{false}
 use mathlib.Core.List.{List, [], _∷_, map}

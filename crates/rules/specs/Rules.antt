@@ -19,7 +19,7 @@ three output remembered number = record { output = output; remembered = remember
 
 -- a digital block's: Q, what it remembers, its number
 abbrev pub gives : Bool → Bool → ℕ → BlockWords
-gives q bit n = three (wordOf q) (wordOf bit) (pos n)
+gives q held n = three (wordOf q) (wordOf held) (pos n)
 
 -- Q alone
 abbrev pub shows : Bool → BlockWords
