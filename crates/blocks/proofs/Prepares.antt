@@ -8,12 +8,13 @@ use borrow.Author.Tests.{eqb-true}
 use lib.Dec.{eqb}
 use lib.IntN.{ℤ}
 use Rattle.kinds.specs.Kinds.{kinds, kindOf, parameter, allowed}
-use Rattle.kinds.specs.Time.{settingOf, ticksOf}
+use Rattle.kinds.specs.Time.{ticks, settingOf, ticksOf}
 use Rattle.kinds.proofs.Allowed.{param-in, ticks-most}
 use Rattle.kinds.specs.declared.Ticks.{Ticks}
 use Rattle.rules.specs.declared.BlockWords.{BlockWords}
-use Rattle.rules.specs.Rules.{bit, onDelay, offDelay, withOff, differentialTrigger}
-use Rattle.blocks.specs.Blocks.{ticks, wasBit, wasOn, wasNumber, timeOf, prepared, rules, workedOut, Fit}
+use Rattle.rules.specs.Rules.{bit, onDelay, offDelay, thresholdTrigger, withOff}
+use Rattle.blocks.specs.Blocks.{wasBit, wasOn, wasNumber, timeOf, prepared, rules, workedOut}
+use Rattle.blocks.specs.Fit.{Fit}
 
 -- Off aside, the parameters stay as they were
 same-param : (is : Bool) (p : List ℤ) (j : ℕ) → (is ≡ true → j < 3) → parameter (cond is (withOff p) p) j ≡ parameter p j
@@ -42,6 +43,10 @@ module _ (kind : ℕ) (p : List ℤ) (a : allowed kind p ≡ true) where
 
 -- ---- on the parameters as the circuit has them, the dispatch is the rule of the kind
 
+-- 16 differential trigger, on A, B, On, Δ: "as 13, Off = On + Δ"
+abbrev differentialTrigger : ℤ → List ℤ → Bool → BlockWords
+differentialTrigger ax p q = thresholdTrigger ax (withOff p) q
+
 module _ (b : List Bool) (a p : List ℤ) (was : BlockWords) (e : Ticks) where
   pub on-delay-is : workedOut 9 b a (prepared 9 p) was e ≡ onDelay (bit b 0) (wasBit was) (ticks (wasNumber was)) (ticksOf (settingOf (parameter p 0) (parameter p 1))) e
   unfolding workedOut rules prepared kindOf kinds
@@ -52,5 +57,5 @@ module _ (b : List Bool) (a p : List ℤ) (was : BlockWords) (e : Ticks) where
   off-delay-is = refl
 
   pub differential-is : workedOut 16 b a (prepared 16 p) was e ≡ differentialTrigger (parameter a 0) p (wasOn was)
-  unfolding workedOut rules prepared differentialTrigger
+  unfolding workedOut rules prepared
   differential-is = refl

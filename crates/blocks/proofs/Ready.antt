@@ -11,7 +11,8 @@ use lib.IntN.{pos}
 use Rattle.words.specs.Signed.{Between}
 use Rattle.kinds.specs.Kinds.{Range, _to_, kindOf, parameter, scaled, indexed}
 use Rattle.blocks.specs.declared.Prepared.{Prepared}
-use Rattle.blocks.specs.Blocks.{idle, rules, workedOut, Fit, Scaling}
+use Rattle.blocks.specs.Blocks.{idle, rules, workedOut}
+use Rattle.blocks.specs.Fit.{Fit, Scaling}
 
 module _ {kind : ℕ} {p : Prepared} (f : Fit kind p) where
   -- a parameter in the range that its kind's list of parameters has

@@ -8,16 +8,18 @@ use native.Mathlib.Omega.{arith}
 use lib.Dec.{ltb, eqb}
 use lib.ListN.{getD}
 use lib.IntN.{ℤ, pos, _-ℤ_}
-use Rattle.words.specs.Signed.{wordOf, Between}
+use Rattle.words.specs.Signed.{wordOf}
 use Rattle.words.proofs.Bounds.{zero-between, count-between, amount-between}
 use Rattle.words.proofs.Bits.{bit-between, word-between}
 use Rattle.kinds.specs.Kinds.{Kind, Sort, digital, analog, none, elapsed, upTo, In, sixteen, delay, latching, shifting, trigger, choosing, kinds, kindOf, chosen, mostOf, parameter, sortRange, outputRange, rememberedRange}
+use Rattle.kinds.specs.Time.{ticks}
 use Rattle.kinds.specs.declared.Ticks.{Ticks}
 use Rattle.rules.specs.declared.BlockWords.{BlockWords}
 use Rattle.rules.specs.Rules.{three, gives, shows, bit, allOf, someOf, andGate, andEdge, nandGate, nandEdge, orGate, norGate, xorGate, notGate, grown, onDelay, offDelay, latchingRelay, digit, registerBit, stepped, shiftRegister, actualOf, triggersOn, thresholdTrigger, compared, multiplexed}
 use Rattle.rules.proofs.Register.{shifted-below}
 use Rattle.blocks.specs.declared.Prepared.{Prepared}
-use Rattle.blocks.specs.Blocks.{ticks, wasBit, wasOn, wasNumber, Rule, idle, rules, workedOut, Fit, Sound}
+use Rattle.blocks.specs.Blocks.{wasBit, wasOn, wasNumber, Rule, idle, rules, workedOut}
+use Rattle.blocks.specs.Fit.{Fit, Sound}
 
 -- ---- a line for each kind
 
@@ -65,7 +67,7 @@ on-made : (trg was : Bool) (ta t e : Ticks) → Made (t .0) (onDelay trg was ta 
 unfolding onDelay
 on-made false was ta t e = made false false 0 (omega arith)
 on-made true false ta t e = made (eqb 0 (t .0)) true 0 (omega arith)
-on-made true true ta t e = made (eqb (grown ta t e) (t .0)) true (grown ta t e) (omega arith)
+on-made true true ta t e = made (eqb (grown ta t e .0) (t .0)) true (grown ta t e .0) (omega arith)
 
 fades-made : (ends : Bool) {m : ℕ} (ta : ℕ) → ta ≤ m → Made m (cond ends (gives false false 0) (gives true false ta))
 fades-made true ta h = made false false 0 (omega arith)
@@ -77,7 +79,7 @@ unfolding offDelay
 off-made true trg was q ta t e = made false trg 0 (omega arith)
 off-made false true was q ta t e = made true true 0 (omega arith)
 off-made false false true q ta t e = made (q && ltb 0 (t .0)) false 0 (omega arith)
-off-made false false false true ta t e = fades-made (eqb (grown ta t e) (t .0)) (grown ta t e) (omega arith)
+off-made false false false true ta t e = fades-made (eqb (grown ta t e .0) (t .0)) (grown ta t e .0) (omega arith)
 off-made false false false false ta t e = made false false (ta .0) (omega arith)
 
 -- Q alone

@@ -1,30 +1,26 @@
 -- One dispatch by kind: what a block's three words become, from its resolved inputs, its prepared parameters, its three words and e.
-use Prim.Native.Nat.{ℕ, zero, suc, _<_, _^_}
-use mathlib.Core.Path.{_≡_}
+use Prim.Native.Nat.{ℕ, zero, suc}
 use mathlib.Core.Bool.{Bool, cond}
 use mathlib.Core.List.{List, [], _∷_}
 use lib.Dec.{eqb}
 use lib.ListN.{getD}
 use lib.IntN.{ℤ, pos}
-use Rattle.words.specs.Signed.{minus, over, bitOf, Between}
-use Rattle.kinds.specs.Time.{settingOf, ticksOf}
-use Rattle.kinds.specs.Kinds.{Kind, In, kindOf, parameter, rangeAt, outputRange, rememberedRange, numberRange}
+use Rattle.words.specs.Signed.{over, bitOf}
+use Rattle.kinds.specs.Time.{ticks, settingOf, ticksOf}
+use Rattle.kinds.specs.Kinds.{kindOf, parameter}
 use Rattle.kinds.specs.declared.Ticks.{Ticks}
+use Rattle.rules.specs.Rules.{three, bit, andGate, andEdge, nandGate, nandEdge, orGate, norGate, xorGate, notGate, onDelay, offDelay, latchingRelay, shiftRegister, thresholdTrigger, compared, multiplexed, withOff}
 use Rattle.rules.specs.declared.BlockWords.{BlockWords}
 use Rattle.blocks.specs.declared.Prepared.{Prepared}
-use Rattle.rules.specs.Rules.{three, bit, andGate, andEdge, nandGate, nandEdge, orGate, norGate, xorGate, notGate, onDelay, offDelay, latchingRelay, shiftRegister, thresholdTrigger, compared, multiplexed, withOff}
 
 -- ---- parameters made ready: the setting in ticks, Off worked out
 
-abbrev pub ticks : ℕ → Ticks
-ticks n = record { 0 = n }
-
--- by how many settings a kind has
+-- the ticks set: those of base and T where the kind has a setting, else none
 abbrev pub timeOf : ℕ → List ℤ → Ticks
 timeOf zero p = ticks 0
 timeOf (suc n) p = ticksOf (settingOf (parameter p 0) (parameter p 1))
 
--- the parameters of a block as its rule takes them
+-- the parameters of a block as its rule takes them; kind 16 is then worked out as 13
 unfoldable pub prepared : ℕ → List ℤ → Prepared
 prepared kind p = record { time = timeOf (kindOf kind .times) p; params = cond (eqb kind 16) (withOff p) p }
 
@@ -76,27 +72,3 @@ rules =
 -- what a block's three words become
 unfoldable pub workedOut : ℕ → Rule
 workedOut kind = getD rules kind idle
-
--- ---- what the rules count on
-
--- of the parameters of an accepted circuit. Off of kind 16 has no range of its own
-pub record Fit (kind : ℕ) (p : Prepared) : Type 0 where
-  pub time-is : p .time .0 < 2 ^ 31
-  pub params-are : (j : ℕ) → j < 4 → (kind ≡ 16 → j < 3) → In (rangeAt (kindOf kind) j) (parameter (p .params) j)
-
--- of the gain and the offset among them
-pub record Scaling (p : Prepared) : Type 0 where
-  pub gain-is : Between (minus 1000) (pos 1000) (parameter (p .params) 0)
-  pub offset-is : Between (minus 10000) (pos 10000) (parameter (p .params) 1)
-
--- of the analog inputs that a sound record gives
-pub record Sixteen (a : List ℤ) : Type 0 where
-  pub first-is : Between (minus 32768) (pos 32767) (parameter a 0)
-  pub second-is : Between (minus 32768) (pos 32767) (parameter a 1)
-
--- ---- three words that a sound record may have, by kind and ticks set
-
-pub record Sound (k : Kind) (t : Ticks) (w : BlockWords) : Type 0 where
-  pub output-is : In (outputRange k) (w .output)
-  pub remembered-is : In (rememberedRange k) (w .remembered)
-  pub number-is : In (numberRange k t) (w .number)

@@ -19,7 +19,7 @@ use Rattle.record.specs.Places.{sizeOf}
 use Rattle.record.specs.Sound.{inScan, sound}
 use Rattle.record.proofs.Held.{Sound, told, tested}
 use Rattle.steps.specs.Steps.{toGo}
-use Rattle.calls.specs.Calls.{Call, coldStart, warmStart, latch, run, publish, Plan, planOf, wrongLength, notSound, isReading, faults, refusal, gives, leaves, shows, answerOn, recordOn, outputsOn, answerAfter, recordAfter, outputsAfter}
+use Rattle.calls.specs.Calls.{Call, coldStart, warmStart, latch, run, publish, Plan, planOf, wrongSize, notSound, isReading, faults, refusal, gives, leaves, shows, answerOn, recordOn, outputsOn, answerAfter, recordAfter, outputsAfter}
 
 -- ---- the numbers
 
@@ -49,13 +49,13 @@ module _ (p : Plan) where
 -- ---- call by call
 
 module _ (p : Plan) (l : List ℤ) where
-  right-length : wrongLength p l .holds ≡ false → length l ≡ sizeOf (length (p .lines))
+  right-length : wrongSize p l .holds ≡ false → length l ≡ sizeOf (length (p .lines))
   right-length e = eqb-true (length l) (sizeOf (length (p .lines))) (not-is _ .0 e)
 
-  is-right : wrongLength p l .holds ≡ false → notSound p l .holds ≡ false → Sound (p .lines) l
+  is-right : wrongSize p l .holds ≡ false → notSound p l .holds ≡ false → Sound (p .lines) l
   is-right e f = told (p .lines) l (right-length e) (not-is (sound (p .lines) l) .0 f)
 
-  length-right : length l ≡ sizeOf (length (p .lines)) → wrongLength p l .holds ≡ false
+  length-right : length l ≡ sizeOf (length (p .lines)) → wrongSize p l .holds ≡ false
   length-right e = rw (eq-eqb (length l) (sizeOf (length (p .lines))) e)
 
   sound-right : Sound (p .lines) l → notSound p l .holds ≡ false

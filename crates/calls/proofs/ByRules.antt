@@ -7,9 +7,9 @@ use mathlib.Core.List.{List}
 use lib.ListN.{length}
 use lib.IntN.{ℤ}
 use Rattle.decoding.specs.Decoded.{Circuit}
+use Rattle.lines.specs.Lines.{linesOf, lineAt}
 use Rattle.lines.specs.declared.Line.{Line}
 use Rattle.record.specs.Places.{elapsed, block, sizeOf, indexOf, word, wordsOf, change}
-use Rattle.record.specs.Sound.{linesOf, lineAt}
 use Rattle.record.proofs.Located.{change-length, change-at, change-word}
 use Rattle.steps.proofs.Reading.{bits-same, values-same}
 use Rattle.steps.proofs.Ordered.{ReadsEarlier, order-length, order-head, order-worked, decided}

@@ -1,17 +1,15 @@
 -- Publish reads and keeps nothing of blocks done: whatever stands there, record and outputs become the same. Assumes nothing.
-use Prim.Native.Nat.{ℕ, zero, suc, _+_, _-_, _<_}
+use Prim.Native.Nat.{ℕ, zero, suc, _+_, _-_}
 use native.Mathlib.Omega.{arith}
-use mathlib.Core.Path.{_≡_, refl, ap, _∙_}
-use mathlib.Core.Bool.{false, cond, _&&_}
+use mathlib.Core.Path.{_≡_, refl, _∙_}
+use mathlib.Core.Bool.{false}
 use mathlib.Core.List.{List, [], _∷_, _++_}
-use lib.Dec.{eqb}
-use lib.ListN.{length, length-set}
+use lib.ListN.{length-set}
 use lib.Seq.{getD-set-other}
 use lib.IntN.{ℤ, pos}
 use Rattle.decoding.specs.Decoded.{Row}
-use Rattle.record.specs.Places.{Place, done, mark, indexOf, placeOf, at, word, put, change}
+use Rattle.record.specs.Places.{done, indexOf, placeOf, at, put, change}
 use Rattle.record.proofs.Located.{Spot, is-phase, is-done, is-mark, is-elapsed, is-input, is-analog, is-flag, is-analogFlag, is-block, change-length, change-at, is-change}
-use Rattle.steps.specs.Steps.{bitFrom, valueFrom}
 use Rattle.steps.proofs.Reading.{bit-same, value-other}
 use Rattle.destinations.specs.Destinations.{Q, M, AQ, AM, carried, destined, listFrom, outputsOf, publishWord}
 

@@ -18,12 +18,13 @@ use Rattle.circuit.specs.Circuit.{verdict, accepted}
 use Rattle.kept.specs.Keeps.{All, Bytes, Keeps, Allowed, RowKeeps}
 use Rattle.kept.proofs.Lists.{all-both}
 use Rattle.kept.proofs.Exactly.{accepted-exactly}
-use Rattle.lines.specs.Lines.{unused, nth, lineOf, Source, Ready}
+use Rattle.lines.specs.Lines.{unused, nth, lineOf, linesOf, noLine, lineAt}
+use Rattle.lines.specs.Ready.{Source, Ready}
 use Rattle.lines.specs.declared.Line.{Line}
 use Rattle.lines.proofs.Ready.{accepted-ready}
-use Rattle.record.specs.Sound.{linesOf, noLine, lineAt}
-use Rattle.steps.specs.Steps.{inputOf, sources}
+use Rattle.steps.specs.Steps.{inputOf}
 use Rattle.steps.specs.Wired.{Wired, Fine}
+use Rattle.steps.specs.Reads.{sources}
 use Rattle.steps.proofs.Ordered.{Before, ReadsEarlier, Names, sources-before}
 use Rattle.destinations.specs.Slots.{Aimed}
 use Rattle.destinations.proofs.Decided.{rows-fine}

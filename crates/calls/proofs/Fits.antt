@@ -16,9 +16,10 @@ use Rattle.kinds.specs.Kinds as kinds
 use Rattle.decoding.specs.Decoded.{Row}
 use Rattle.kept.specs.Keeps.{All}
 use Rattle.kept.proofs.Lists.{all-map}
+use Rattle.lines.specs.Lines.{lineAt}
 use Rattle.lines.specs.declared.Line.{Line}
 use Rattle.record.specs.Places.{Place, phase, done, mark, elapsed, input, analog, flag, analogFlag, block, sizeOf, indexOf, placeOf, at, word, change}
-use Rattle.record.specs.Sound.{lineAt, blockRange, rangeOf, every, isZero}
+use Rattle.record.specs.Sound.{blockRange, rangeOf, every, isZero}
 use Rattle.record.proofs.Located.{Real, place-real, change-length, change-at}
 use Rattle.record.proofs.Runs.{every-each}
 use Rattle.record.proofs.Held.{Sound}

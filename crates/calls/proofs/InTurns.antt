@@ -11,14 +11,15 @@ use lib.Dec.{eqb}
 use lib.ListN.{length, take, drop}
 use lib.Seq.{getD-set-other, length-take-le}
 use lib.IntN.{ℤ, pos}
-use borrow.Author.Tests.{eqb-true, eqb-false}
+use borrow.Author.Tests.{eqb-false}
 use Rattle.words.specs.Signed.{over}
 use Rattle.words.proofs.Bounds.{and-true, amount-between}
 use Rattle.refusals.specs.Answers.{acceptedWith}
 use Rattle.decoding.specs.Decoded.{Circuit}
+use Rattle.lines.specs.Lines.{linesOf}
 use Rattle.lines.specs.declared.Line.{Line}
-use Rattle.record.specs.Places.{done, sizeOf, indexOf, placeOf, at, word, put, change}
-use Rattle.record.specs.Sound.{linesOf, inScan, isZero}
+use Rattle.record.specs.Places.{done, indexOf, placeOf, at, word, put, change}
+use Rattle.record.specs.Sound.{inScan, isZero}
 use Rattle.record.proofs.Located.{Spot, is-phase, is-done, is-mark, is-elapsed, is-input, is-analog, is-flag, is-analogFlag, is-block, spot, change-at}
 use Rattle.record.proofs.Held.{Sound, told}
 use Rattle.steps.specs.Steps.{stepsFrom, doneOf, toGo, turnOf, turned}
@@ -32,7 +33,7 @@ use Rattle.calls.specs.Promises.{ScanInTurns}
 use Rattle.calls.proofs.Accepts.{warm-told, latch-told, latch-right, run-right, publish-told, publish-right}
 use Rattle.calls.proofs.Fine.{accepted-fine}
 use Rattle.calls.proofs.Fits.{reading, latch-sound}
-use Rattle.calls.proofs.Turns.{turned-is, turned-scan, turned-done, turned-keeps, turned-none, turned-most, turned-add}
+use Rattle.calls.proofs.Turns.{turned-is, turned-scan, turned-done, turned-keeps, turned-none, turned-add}
 use Rattle.calls.proofs.Closing.{publish-other, outputs-other}
 use Rattle.calls.proofs.Play.{same-moment, reply-number, reply-is, after-is, after-none}
 

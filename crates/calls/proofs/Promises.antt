@@ -1,23 +1,23 @@
 -- The promises, proved: over the definitions that the contracts of the calls cite. Assumes nothing.
-use Prim.Native.Nat.{ℕ, _≤_, _<_}
+use Prim.Native.Nat.{ℕ, _<_}
 use native.Mathlib.Omega.{arith}
 use mathlib.Core.Path.{_≡_, refl, sym, ap, _∙_}
 use mathlib.Core.Logic.{_⊎_, inl, inr}
-use mathlib.Core.Bool.{true}
 use mathlib.Core.List.{List, _++_}
 use lib.ListN.{length, take, drop, take-append-drop}
 use lib.Seq.{length-take-le}
 use lib.IntN.{ℤ}
 use Rattle.refusals.specs.Limited.{ours}
-use Rattle.refusals.specs.Answers.{refusedAt, acceptedWith}
+use Rattle.refusals.specs.Answers.{acceptedWith}
 use Rattle.decoding.specs.Decoded.{Circuit}
 use Rattle.circuit.specs.Circuit.{Verdict, verdict, refused, accepted, answerTo, answerAt}
 use Rattle.circuit.proofs.Listed.{refusal-listed}
 use Rattle.circuit.proofs.Rising.{field-lowest}
 use Rattle.kept.proofs.Exactly.{accepted-exactly, kept-accepted}
+use Rattle.lines.specs.Lines.{linesOf}
 use Rattle.lines.specs.declared.Line.{Line}
 use Rattle.record.specs.Places.{indexOf, placeOf, change}
-use Rattle.record.specs.Sound.{linesOf, inScan}
+use Rattle.record.specs.Sound.{inScan}
 use Rattle.record.proofs.Located.{change-at}
 use Rattle.record.proofs.Held.{Sound, told, tested}
 use Rattle.steps.specs.Steps.{toGo}
@@ -26,7 +26,7 @@ use Rattle.calls.specs.Calls.{Call, coldStart, warmStart, latch, run, pu
 use Rattle.calls.specs.Play.{AnyCall, check, on, Moment, moment, lends, made, replyTo, after}
 use Rattle.calls.specs.InTurns.{Good}
 use Rattle.calls.specs.Promises.{Listed, of-circuit, of-record, Answered, accepts, refuses, EveryCallAnswers, CheckTells, StaysSound, ColdStartSound, CanBeClosed, Promises}
-use Rattle.calls.proofs.Accepts.{OnRecord, cold-right, answer-refused, answer-after, record-after, number-after, either-way}
+use Rattle.calls.proofs.Accepts.{OnRecord, cold-right, answer-refused, answer-after, record-after, either-way}
 use Rattle.calls.proofs.Accepts as on-plan
 use Rattle.calls.proofs.Fine.{accepted-fine}
 use Rattle.calls.proofs.Fits.{cold-sound}

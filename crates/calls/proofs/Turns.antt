@@ -8,12 +8,12 @@ use mathlib.Core.List.{List}
 use lib.Dec.{eqb}
 use lib.ListN.{length, length-set}
 use lib.Seq.{getD-set-same, getD-set-other, set-set, set-getD}
-use lib.IntN.{ℤ, pos, negsuc}
+use lib.IntN.{ℤ, pos}
 use borrow.Author.Tests.{eqb-true, eqb-false}
-use Rattle.words.specs.Signed.{over, Between}
-use Rattle.words.proofs.Bounds.{between-sides, amount-between, count-between}
+use Rattle.words.specs.Signed.{over}
+use Rattle.words.proofs.Bounds.{amount-between, count-is, count-between}
 use Rattle.lines.specs.declared.Line.{Line}
-use Rattle.record.specs.Places.{done, sizeOf, indexOf, placeOf, word, put}
+use Rattle.record.specs.Places.{done, sizeOf, indexOf, placeOf, put}
 use Rattle.record.specs.Sound.{fitsAt, inScan}
 use Rattle.record.proofs.Held.{Sound, word-in}
 use Rattle.steps.specs.Steps.{stepsFrom, doneOf, toGo, turnOf, turned}
@@ -83,16 +83,11 @@ turned-is lines c l = refl
 
 -- ---- a turn of none, and one of all
 
--- a word that is not negative is a count
-word-count : {g : ℤ} (z : ℤ) → Between (pos 0) g z → pos (over z) ≡ z
-word-count (pos n) b = refl
-word-count (negsuc n) b = let s = between-sides b in let z : ⊥ = omega arith in absurd z
-
 -- "Run of 0 blocks in a scan: nothing changes"
 pub turned-none : (lines : List Line) (l : List ℤ) → Sound lines l → turned lines 0 l ≡ l
 unfolding turned
 turned-none lines l s =
-    rw (zero-min (toGo lines l), steps-zero lines (doneOf l) l, add-zero (doneOf l), word-count (word l done) (word-in lines l s done tt))
+    rw (zero-min (toGo lines l), steps-zero lines (doneOf l) l, add-zero (doneOf l), count-is (word-in lines l s done tt))
     (set-getD l (indexOf done) (pos 0))
 
 -- beyond the blocks to go a turn works out no more

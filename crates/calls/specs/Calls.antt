@@ -1,7 +1,7 @@
 -- The calls on a record: refusals in their order, the answer, and every lent word afterwards. Document 01, "Run record and outputs" and
 -- "Refusal numbers and their order".
 use Prim.Native.Nat.{ℕ, _+_, _-_}
-use mathlib.Core.Bool.{Bool, false, cond, not, _&&_, _||_}
+use mathlib.Core.Bool.{Bool, cond, not, _&&_, _||_}
 use mathlib.Core.List.{List, [], _∷_}
 use lib.Dec.{eqb}
 use lib.ListN.{length}
@@ -13,9 +13,10 @@ use Rattle.refusals.specs.Answers.{refusedAt, acceptedWith}
 use Rattle.refusals.specs.declared.Answer.{Answer}
 use Rattle.decoding.specs.Decoded.{Circuit, Row}
 use Rattle.circuit.specs.Circuit.{Verdict, refused, accepted, verdict}
+use Rattle.lines.specs.Lines.{linesOf, lineAt}
 use Rattle.lines.specs.declared.Line.{Line}
-use Rattle.record.specs.Places.{Place, phase, done, mark, elapsed, input, analog, flag, analogFlag, block, sizeOf, at, change}
-use Rattle.record.specs.Sound.{linesOf, lineAt, every, inScan, sound}
+use Rattle.record.specs.Places.{Place, phase, done, mark, elapsed, input, analog, flag, analogFlag, block, owner, sizeOf, at, change}
+use Rattle.record.specs.Sound.{every, inScan, sound}
 use Rattle.steps.specs.Steps.{toGo, turnOf, turned}
 use Rattle.destinations.specs.Destinations.{outputsOf, publishWord}
 
@@ -52,17 +53,9 @@ fresh (block k j) = pos 0
 abbrev pub coldWord : Place → ℤ → ℤ
 coldWord p z = fresh p
 
--- a word of a retentive block
+-- a word of a retentive block; a place of no block asks the line of block 0, `noLine`, which is not retentive
 abbrev pub isKept : List Line → Place → Bool
-isKept lines phase = false
-isKept lines done = false
-isKept lines mark = false
-isKept lines elapsed = false
-isKept lines (input k) = false
-isKept lines (analog k) = false
-isKept lines (flag k) = false
-isKept lines (analogFlag k) = false
-isKept lines (block k j) = lineAt lines k .retentive
+isKept lines p = lineAt lines (owner p) .retentive
 
 -- "Warm start does that and keeps the three words of retentive blocks"
 abbrev pub warmWord : List Line → Place → ℤ → ℤ
@@ -80,17 +73,19 @@ latchWord r e (flag k) z = z
 latchWord r e (analogFlag k) z = z
 latchWord r e (block k j) z = z
 
+-- publish: `publishWord`, in Destinations, where the rows are read
+
 -- ---- the refusals: "then 20 to 24 in order"
 
--- "record length"
-abbrev pub wrongLength : Plan → List ℤ → Fault
-wrongLength p l = 20 when not (eqb (length l) (sizeOf (length (p .lines))))
+-- 20: "record length"
+abbrev pub wrongSize : Plan → List ℤ → Fault
+wrongSize p l = 20 when not (eqb (length l) (sizeOf (length (p .lines))))
 
--- "record not sound (all calls on a record but cold start)"
+-- 21: "record not sound (all calls on a record but cold start)"
 abbrev pub notSound : Plan → List ℤ → Fault
 notSound p l = 21 when not (sound (p .lines) l)
 
--- "latch: not 32 input words, a digital one not 0 or 1, an analog one not 0..1000, e not 0..65,535"
+-- a reading that latch takes; 23: "latch: not 32 input words, a digital one not 0 or 1, an analog one not 0..1000, e not 0..65,535"
 unfoldable pub isReading : List ℤ → ℤ → Bool
 isReading r e =
     eqb (length r) 32
@@ -100,12 +95,12 @@ isReading r e =
 -- 22: "wrong phase: warm start or latch in a scan; run while waiting; publish while waiting or with blocks to go"; 24: "publish: not 28
 -- output words"
 unfoldable pub faults : Plan → Call → List ℤ → List Fault
-faults p coldStart l = (wrongLength p l ∷ [])
-faults p warmStart l = (wrongLength p l ∷ notSound p l ∷ 22 when inScan l ∷ [])
-faults p (latch r e) l = (wrongLength p l ∷ notSound p l ∷ 22 when inScan l ∷ 23 when not (isReading r e) ∷ [])
-faults p (run c) l = (wrongLength p l ∷ notSound p l ∷ 22 when not (inScan l) ∷ [])
+faults p coldStart l = (wrongSize p l ∷ [])
+faults p warmStart l = (wrongSize p l ∷ notSound p l ∷ 22 when inScan l ∷ [])
+faults p (latch r e) l = (wrongSize p l ∷ notSound p l ∷ 22 when inScan l ∷ 23 when not (isReading r e) ∷ [])
+faults p (run c) l = (wrongSize p l ∷ notSound p l ∷ 22 when not (inScan l) ∷ [])
 faults p (publish k) l =
-    (wrongLength p l ∷ notSound p l ∷ 22 when (not (inScan l) || not (eqb (toGo (p .lines) l) 0)) ∷ 24 when not (eqb k 28) ∷ [])
+    (wrongSize p l ∷ notSound p l ∷ 22 when (not (inScan l) || not (eqb (toGo (p .lines) l) 0)) ∷ 24 when not (eqb k 28) ∷ [])
 
 -- the number of the refusal; 0: "A call for which no number holds is accepted"
 unfoldable pub refusal : Plan → Call → List ℤ → ℕ
@@ -121,7 +116,7 @@ gives p (latch r e) l = acceptedWith 0 0
 gives p (run c) l = acceptedWith (turnOf (p .lines) c l) (toGo (p .lines) l - turnOf (p .lines) c l)
 gives p (publish k) l = acceptedWith 0 0
 
--- the record
+-- the record that it leaves
 unfoldable pub leaves : Plan → Call → List ℤ → List ℤ
 leaves p coldStart l = change coldWord l
 leaves p warmStart l = change (warmWord (p .lines)) l

@@ -8,17 +8,19 @@ use lib.Dec.{eqb}
 use lib.ListN.{length, take, drop}
 use lib.IntN.{ℤ, pos}
 use Rattle.words.specs.Signed.{over}
+use Rattle.kinds.specs.Time.{ticks}
 use Rattle.refusals.specs.Answers.{acceptedWith}
 use Rattle.decoding.specs.Decoded.{Circuit}
 use Rattle.circuit.specs.Circuit.{verdict, accepted}
 use Rattle.kept.specs.Keeps.{Bytes}
+use Rattle.lines.specs.Lines.{linesOf, lineAt}
 use Rattle.lines.specs.declared.Line.{Line}
-use Rattle.blocks.specs.Blocks.{ticks, workedOut}
+use Rattle.blocks.specs.Blocks.{workedOut}
 use Rattle.record.specs.Places.{done, flag, output, sizeOf, indexOf, placeOf, at, put, wordsOf, change}
-use Rattle.record.specs.Sound.{linesOf, lineAt, inScan, sound}
+use Rattle.record.specs.Sound.{inScan, sound}
 use Rattle.steps.specs.Steps.{bitsOf, valuesOf, order, along, stepsFrom, doneOf}
 use Rattle.destinations.specs.Destinations.{outputsOf, publishWord}
-use Rattle.calls.specs.Calls.{Call, coldStart, warmStart, latch, run, publish, latchWord, isReading}
+use Rattle.calls.specs.Calls.{coldStart, warmStart, latch, run, publish, latchWord, isReading}
 use Rattle.calls.specs.Play.{AnyCall, check, on, Moment, moment, replyTo, after, play}
 
 -- ---- a scan that is opened

@@ -13,8 +13,9 @@ use Rattle.refusals.specs.Answers.{refusedAt, acceptedWith}
 use Rattle.decoding.specs.Decoded.{Circuit, State}
 use Rattle.circuit.specs.Circuit.{fieldFaults, fieldNumber, verdict, accepted}
 use Rattle.kept.specs.Keeps.{Bytes, Keeps, encode}
+use Rattle.lines.specs.Lines.{linesOf}
 use Rattle.record.specs.Places.{done, sizeOf, put}
-use Rattle.record.specs.Sound.{linesOf, inScan}
+use Rattle.record.specs.Sound.{inScan}
 use Rattle.steps.specs.Steps.{toGo}
 use Rattle.calls.specs.Calls.{Call, coldStart, latch, run, publish, Plan, faults, refusal}
 use Rattle.calls.specs.Play.{AnyCall, check, on, Moment, replyTo, after, play}

@@ -11,9 +11,9 @@ use Rattle.decoding.specs.Decoded.{indexUsed, destinationUsed}
 use Rattle.circuit.specs.Circuit.{byTag, tagFaults, fieldFaults, fieldNumber, taken, closing, walk, verdictAt, answerTo, answerAt}
 use Rattle.kept.specs.Keeps.{encode, field, connectorBytes, signedBytes, blockContent, rowContent}
 use Rattle.blocks.specs.Blocks.{prepared, rules, workedOut}
-use Rattle.lines.specs.Lines.{lineOf}
+use Rattle.lines.specs.Lines.{lineOf, linesOf}
 use Rattle.record.specs.Places.{indexOf, placeOf, changeFrom}
-use Rattle.record.specs.Sound.{linesOf, every, sound}
+use Rattle.record.specs.Sound.{every, sound}
 use Rattle.steps.specs.Steps.{sourceOf, plainBit, bitFrom, bitsOf, valuesOf, becomes, step, order, along, stepsFrom, turned}
 use Rattle.destinations.specs.Destinations.{carried, destined, outputsOf}
 use Rattle.calls.specs.Calls.{isReading, faults, refusal, gives, leaves, shows, answerOn, recordOn, outputsOn, answerAfter, recordAfter, outputsAfter}

@@ -11,10 +11,10 @@ use lib.Seq.{getD-set-same, getD-set-other}
 use lib.IntN.{ℤ, pos}
 use lib.Signed.{leZ}
 use borrow.Author.Tests.{lt-ltb, le-ltb, eq-eqb, ne-eqb, eqb-true, eqb-false}
-use Rattle.words.specs.Signed.{over, under}
+use Rattle.words.specs.Signed.{over}
 use Rattle.words.proofs.Bounds.{and-true}
 use Rattle.words.proofs.Sides as sides
-use Rattle.words.proofs.Sides.{leZ-true, le-leZ}
+use Rattle.words.proofs.Sides.{under, leZ-true, le-leZ}
 use Rattle.refusals.proofs.Tests.{and-iff, fails}
 use Rattle.refusals.specs.Modest.{Modest}
 use Rattle.refusals.specs.declared.Limits.{Limits}

@@ -7,12 +7,12 @@ use native.Mathlib.Omega.{arith}
 use native.Mathlib.Numerals.{add-one}
 use lib.Dec.{eqb}
 use lib.ListN.{length, getD, take, set, length-append, length-set}
-use lib.IntN.{ℤ, pos, negsuc}
+use lib.IntN.{ℤ, pos}
 use lib.Seq.{take-suc-set, getD-set-same, getD-set-other}
 use borrow.Author.Tests.{eqb-true, eqb-false}
 use Rattle.words.specs.Bytes.{numberAt}
-use Rattle.words.specs.Signed.{over, Between}
-use Rattle.words.proofs.Bounds.{amount-between}
+use Rattle.words.specs.Signed.{over}
+use Rattle.words.proofs.Bounds.{amount-between, count-is}
 use Rattle.kinds.specs.Kinds.{kinds, kindOf, isAnalog, allowed, indexed}
 use Rattle.refusals.specs.Faults.{lowest}
 use Rattle.refusals.specs.Stages.{amongBlocks, afterBlock, amongRows, ended}
@@ -82,11 +82,6 @@ labelled-index v x (b ∷ c ∷ l) =
 
 -- ---- the numbers are those of the state
 
--- an index in its range is a number
-index-count : {x : ℤ} → Between (pos 1) (pos 4) x → x ≡ pos (over x)
-index-count {x = pos n} e = refl
-index-count {x = negsuc n} e = let a = amount-between e in let z : ⊥ = omega arith in absurd z
-
 module _ (limits : Limits) (s : List ℕ) (at size : ℕ) (seen : Seen) (st : State) (h : Holds limits s seen st) where
   abbrev pub headerHere : ℕ
   headerHere = lowest (headerFaults limits s at size (seen .head .stage))
@@ -140,7 +135,7 @@ module _ (limits : Limits) (s : List ℕ) (at size : ℕ) (seen : Seen) (st : St
       let r = index-range s at (kindAt s at) e a in
       let x = amount-between r in
       h .registers (over (signedAt s (indexFrom at))) (x .0) (x .1)
-      ∙ ap (λ (v : ℤ). indexUsed v (st .blocks)) (sym (index-count r)))
+      ∙ ap (λ (v : ℤ). indexUsed v (st .blocks)) (count-is r))
       ∙ ap₂ (λ (a b : ℕ). lowest (blockFaults limits s at size a b (seen .head .blocks) before is)) (h .stage) (h .n)
       ∙ ap₂ (λ (a : ℕ) (l : List Bool). lowest (blockFaults limits s at size (st .stage) (st .n) a l is)) (h .blocks) (h .sorts)
 
@@ -233,7 +228,7 @@ module _ (limits : Limits) (s : List ℕ) (at size : ℕ) (fit : (at + 3) + size
           let r = index-range s at (kindAt s at) k w in
           let a = amount-between r in
           let p : indexOf (blockAt s at) ≡ pos (over (signedAt s (indexFrom at))) =
-          index-first s at (kindAt s at) k ∙ index-count r in
+          index-first s at (kindAt s at) k ∙ sym (count-is r) in
           ap (λ (b : Bool). getD (cond b (set (seen .registers) (indexMark s at) true) (seen .registers)) (x - 1) false) e
           ∙ register-marked (seen .registers) (st .blocks) (blockAt s at) (over (signedAt s (indexFrom at))) (h .registers-long) k p (a .0) (a .1) (h .registers) x l g
       go false e =

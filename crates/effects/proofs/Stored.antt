@@ -15,10 +15,9 @@ use Rattle.words.specs.Signed.{wordOf}
 use Rattle.rules.specs.Rules.{three}
 use Rattle.rules.specs.declared.BlockWords.{BlockWords}
 use Rattle.decoding.specs.Decoded.{blockAt}
-use Rattle.lines.specs.Lines.{lineOf}
+use Rattle.lines.specs.Lines.{lineOf, lineAt}
 use Rattle.lines.specs.declared.Line.{Line}
 use Rattle.record.specs.Places.{Place, phase, mark, elapsed, input, flag, block, number, sizeOf, indexOf, placeOf, at, put, putWords, change}
-use Rattle.record.specs.Sound.{lineAt}
 use Rattle.record.specs.Written.{putAll, nothing, linesAt, Stand}
 use Rattle.record.proofs.Located.{Spot, is-phase, is-done, is-mark, is-elapsed, is-input, is-analog, is-flag, is-analogFlag, is-block, spot, is-change, put-words-length, put-words-away, put-words-output, put-words-remembered, put-words-number}
 use Rattle.record.proofs.Runs.{put-all-length, put-all-away, put-all-in}

@@ -18,9 +18,11 @@ infix 70 _to_
 abbrev pub _to_ : ℤ → ℤ → Range
 a to b = record { least = a; greatest = b }
 
+-- a number is in a range
 abbrev pub inRange : Range → ℤ → Bool
 inRange r x = isWithin x (r .least) (r .greatest)
 
+-- as a fact
 abbrev pub In : Range → ℤ → Type 0
 In r x = Between (r .least) (r .greatest) x
 
@@ -49,16 +51,12 @@ pub record Kind : Type 0 where
   pub retentive : Bool
   -- "digital block", "analog block"
   pub output : Sort
-  -- the greatest remembered word; 0 where the kind has no use for it
+  -- the greatest remembered word: 1 where a bit is remembered ("all inputs 1 for kinds 2 and 4; Trg for 9, 10, 12"), else 0
   pub remembered : ℕ
   -- "number (Ta, or the register ..)"
   pub number : Number
 
 -- ---- the parameters
-
--- "Gain A is −1000..1000 hundredths, B −10,000..10,000, On, Off and Δ −20,000..20,000"
-unfoldable pub scaled : List Range
-scaled = minus 1000 to pos 1000 ∷ minus 10000 to pos 10000 ∷ minus 20000 to pos 20000 ∷ minus 20000 to pos 20000 ∷ []
 
 -- base, T: "0 seconds (T 0..9999, hundredths)", the widest of the three
 unfoldable pub timed : List Range
@@ -67,6 +65,10 @@ timed = pos 0 to pos 2 ∷ pos 0 to pos 9999 ∷ []
 -- "index 1..4, bit 1..8"
 unfoldable pub indexed : List Range
 indexed = pos 1 to pos 4 ∷ pos 1 to pos 8 ∷ []
+
+-- "Gain A is −1000..1000 hundredths, B −10,000..10,000, On, Off and Δ −20,000..20,000"
+unfoldable pub scaled : List Range
+scaled = minus 1000 to pos 1000 ∷ minus 10000 to pos 10000 ∷ minus 20000 to pos 20000 ∷ minus 20000 to pos 20000 ∷ []
 
 -- 16 bits with a sign; "V −32,768..32,767"
 abbrev pub sixteen : Range
@@ -77,6 +79,7 @@ chosen = sixteen ∷ sixteen ∷ sixteen ∷ sixteen ∷ []
 
 -- ---- the kinds
 
+-- digital and analog inputs, what an unused one counts; parameters, settings among them; retentive; output, remembered word, number
 abbrev row : ℕ → ℕ → Bool → List Range → ℕ → Bool → Sort → ℕ → Number → Kind
 row digitals analogs unused parameters times retentive output remembered number =
     record {
@@ -91,8 +94,6 @@ row digitals analogs unused parameters times retentive output remembered number 
       number = number;
     }
 
--- digital and analog inputs, what an unused one counts; parameters, settings among them; retentive; output, remembered word, number
-
 -- a gate, by its inputs, what an unused one counts, and its greatest remembered word
 abbrev pub gate : ℕ → Bool → ℕ → Kind
 gate n unused remembered = row n 0 unused [] 0 false digital remembered none
@@ -101,9 +102,11 @@ gate n unused remembered = row n 0 unused [] 0 false digital remembered none
 abbrev pub delay : ℕ → Kind
 delay n = row n 0 false timed 1 true digital 1 elapsed
 
+-- the latching relay
 abbrev pub latching : Kind
 latching = row 2 0 false [] 0 true digital 0 none
 
+-- the shift register: "register 0..255"
 abbrev pub shifting : Kind
 shifting = row 3 0 false indexed 0 true digital 1 (upTo 255)
 
@@ -111,6 +114,7 @@ shifting = row 3 0 false indexed 0 true digital 1 (upTo 255)
 abbrev pub trigger : ℕ → Kind
 trigger n = row 0 n false scaled 0 false digital 0 none
 
+-- the multiplexer
 abbrev pub choosing : Kind
 choosing = row 3 0 false chosen 0 false analog 0 none
 

@@ -17,11 +17,12 @@ use Rattle.decoding.specs.declared.Head.{Head}
 use Rattle.circuit.specs.Circuit.{verdictAt, accepted}
 use Rattle.circuit.specs.Judged.{Accepts}
 use Rattle.blocks.proofs.Prepares.{prepared-fit, prepared-most}
-use Rattle.kept.specs.Keeps.{All, EachAfter, Each, Bytes, BlockKeeps, Earlier, Allowed, Refers}
+use Rattle.kept.specs.Keeps.{All, EachAfter, Bytes, BlockKeeps, Earlier, Allowed, Refers}
 use Rattle.kept.proofs.Fields.{known-iff}
 use Rattle.kept.proofs.Rules.{are-allowed}
 use Rattle.kept.proofs.Exactly.{accepted-exactly}
-use Rattle.lines.specs.Lines.{unused, lineOf, Ready}
+use Rattle.lines.specs.Lines.{unused, lineOf}
+use Rattle.lines.specs.Ready.{Ready}
 
 -- ---- the lines of an accepted circuit
 

@@ -10,14 +10,14 @@ use lib.IntN.{ℤ, pos}
 use borrow.Author.Tests.{leb-true, le-leb}
 use Rattle.words.specs.Signed.{Between}
 use Rattle.kinds.specs.Kinds.{Kind, kinds, kindOf, scaled, timed, indexed, chosen, contentLength, parameter, allowed}
-use Rattle.kinds.specs.Time.{settingOf, ticksOf}
+use Rattle.kinds.specs.Time.{settingOf, ticksOf, ticks}
 use Rattle.kinds.proofs.Rows.{each-kind}
 use Rattle.kinds.proofs.Allowed.{base-in, time-in}
 use Rattle.blockfield.specs.BlockField.{kindAt, parametersFrom, parametersAt, fourOf, signedAt}
 use Rattle.blockfield.specs.Marked.{Lies}
 use Rattle.blockfield.proofs.Laws.{signed-in}
 use Rattle.decoding.specs.Decoded.{blockAt}
-use Rattle.blocks.specs.Blocks.{ticks, timeOf, prepared}
+use Rattle.blocks.specs.Blocks.{timeOf, prepared}
 use Rattle.lines.specs.Lines.{lineOf}
 
 -- a kind with a setting has two parameters

@@ -1,20 +1,16 @@
--- A block ready to be worked out: its kind, whether it is retentive, four connectors, its parameters made ready.
-use Prim.Native.Nat.{ℕ, _+_, _≤_, _<_}
-use mathlib.Core.Path.{_≡_}
-use mathlib.Core.Bool.{true}
-use mathlib.Core.List.{List, [], _∷_}
+-- The line of a block, ready to be worked out: kind, whether retentive, four connectors, parameters made ready. The lines of a circuit.
+use Prim.Native.Nat.{ℕ}
+use mathlib.Core.Bool.{false}
+use mathlib.Core.List.{List, [], _∷_, map}
 use lib.Dec.{eqb}
 use lib.ListN.{getD}
-use Rattle.kinds.specs.Kinds.{kindOf, known}
-use Rattle.refusals.specs.declared.Limits.{Limits}
-use Rattle.connectors.specs.Connectors.{Connector, digitalInput, analogInput}
+use Rattle.connectors.specs.Connectors.{Connector}
 use Rattle.blockfield.specs.BlockField.{fourOf}
-use Rattle.decoding.specs.Decoded.{Block}
-use Rattle.blocks.specs.Blocks.{prepared, Fit}
-use Rattle.kept.specs.Keeps.{Allowed, Refers}
+use Rattle.decoding.specs.Decoded.{Block, Circuit}
+use Rattle.blocks.specs.Blocks.{prepared}
 use Rattle.lines.specs.declared.Line.{Line}
 
--- class 0, number 0
+-- "0 unused (number 0)"
 abbrev pub unused : Connector
 unused = record { class = 0; number = 0 }
 
@@ -40,20 +36,15 @@ lineOf b =
       prepared = prepared (b .kind) (fourOf (b .parameters));
     }
 
--- ---- what a step may count on
+-- ---- the lines of a circuit
 
--- a connector that is allowed where it stands, and that names no block but one of those before, of the right sort
-pub record Source (limits : Limits) (place n : ℕ) (before : List Block) (c : Connector) : Type 0 where
-  pub allowed : Allowed limits place n c
-  pub refers : Refers before c
+unfoldable pub linesOf : Circuit → List Line
+linesOf c = map lineOf (c .blocks)
 
--- of a block of an accepted circuit of n blocks, and of the blocks before it
-pub record Ready (limits : Limits) (n : ℕ) (before : List Block) (b : Block) : Type 0 where
-  pub is-known : known (b .kind) ≡ true
-  pub fit : Fit (b .kind) (lineOf b .prepared)
-  -- 5999 hours are the most
-  pub most : lineOf b .prepared .time .0 ≤ 35994000
-  pub digital : (j : ℕ) → j < kindOf (b .kind) .digitals → Source limits digitalInput n before (nth (b .inputs) j)
-  pub analog : (j : ℕ) → kindOf (b .kind) .digitals ≤ j → j < kindOf (b .kind) .digitals + kindOf (b .kind) .analogs → Source limits analogInput n before (nth (b .inputs) j)
-  -- beyond its inputs nothing is connected
-  pub none : (j : ℕ) → kindOf (b .kind) .digitals + kindOf (b .kind) .analogs ≤ j → nth (b .inputs) j ≡ unused
+-- no block
+abbrev pub noLine : Line
+noLine = record { kind = 0; retentive = false; classes = classesOf []; numbers = numbersOf []; prepared = prepared 0 [] }
+
+-- the line of block k: "Blocks are numbered 1, 2, .."
+abbrev pub lineAt : List Line → ℕ → Line
+lineAt lines k = getD (noLine ∷ lines) k noLine

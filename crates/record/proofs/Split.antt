@@ -12,10 +12,10 @@ use lib.IntN.{ℤ, pos}
 use Rattle.kinds.specs.Kinds.{Range, _to_, inRange, sixteen}
 use Rattle.kinds.proofs.Rows.{any-default}
 use Rattle.decoding.specs.Decoded.{blockAt}
-use Rattle.lines.specs.Lines.{lineOf}
+use Rattle.lines.specs.Lines.{lineOf, noLine, lineAt}
 use Rattle.lines.specs.declared.Line.{Line}
 use Rattle.record.specs.Places.{Place, input, analog, flag, analogFlag, block, sizeOf, indexOf, placeOf, at, word}
-use Rattle.record.specs.Sound.{noLine, lineAt, blockRange, rangeOf, every, inScan, atRest, fitsAt, sound}
+use Rattle.record.specs.Sound.{blockRange, rangeOf, every, inScan, atRest, fitsAt, sound}
 use Rattle.record.specs.Written.{runFits, headFits, fixedFit, blockFits, blocksFit, linesAt, Stand}
 use Rattle.record.proofs.Located.{Real, place-index}
 use Rattle.record.proofs.Runs.{every-add, every-same, every-three}

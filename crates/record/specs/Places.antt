@@ -31,6 +31,18 @@ remembered k = block k 1
 abbrev pub number : ℕ → Place
 number k = block k 2
 
+-- the block whose word stands at a place, 0 for none
+abbrev pub owner : Place → ℕ
+owner phase = 0
+owner done = 0
+owner mark = 0
+owner elapsed = 0
+owner (input k) = 0
+owner (analog k) = 0
+owner (flag k) = 0
+owner (analogFlag k) = 0
+owner (block k j) = k
+
 -- "exactly 164 + 3n"
 abbrev pub sizeOf : ℕ → ℕ
 sizeOf n = 164 + 3 * n

@@ -1,29 +1,14 @@
 -- Document 01, "Run record and outputs": when a record is sound, for the lines of a decoded circuit.
 use Prim.Native.Nat.{ℕ, zero, suc}
-use mathlib.Core.Bool.{Bool, true, false, _&&_, _||_}
-use mathlib.Core.List.{List, [], _∷_, map}
-use lib.ListN.{length, getD}
+use mathlib.Core.Bool.{Bool, true, _&&_, _||_}
+use mathlib.Core.List.{List}
+use lib.ListN.{length}
 use lib.IntN.{ℤ, pos}
 use Rattle.words.specs.Signed.{bitOf}
 use Rattle.kinds.specs.Kinds.{Range, _to_, inRange, sixteen, kindOf, outputRange, rememberedRange, numberRange}
-use Rattle.blocks.specs.Blocks.{prepared}
-use Rattle.decoding.specs.Decoded.{Circuit}
-use Rattle.lines.specs.Lines.{classesOf, numbersOf, lineOf}
+use Rattle.lines.specs.Lines.{lineAt}
 use Rattle.lines.specs.declared.Line.{Line}
 use Rattle.record.specs.Places.{Place, phase, done, mark, elapsed, input, analog, flag, analogFlag, block, sizeOf, placeOf, at, word}
-
--- ---- the lines of a circuit
-
-unfoldable pub linesOf : Circuit → List Line
-linesOf c = map lineOf (c .blocks)
-
--- no block
-abbrev pub noLine : Line
-noLine = record { kind = 0; retentive = false; classes = classesOf []; numbers = numbersOf []; prepared = prepared 0 [] }
-
--- the line of block k: "Blocks are numbered 1, 2, .."
-abbrev pub lineAt : List Line → ℕ → Line
-lineAt lines k = getD (noLine ∷ lines) k noLine
 
 -- ---- the range of each word
 
@@ -60,6 +45,7 @@ inScan l = bitOf (word l phase)
 abbrev pub isZero : ℤ → Bool
 isZero z = inRange (pos 0 to pos 0) z
 
+-- the word at an index is in its range
 abbrev pub fitsAt : List Line → List ℤ → ℕ → Bool
 fitsAt lines l i = inRange (rangeOf lines (placeOf i)) (at l i)
 

@@ -6,7 +6,7 @@ ghost use lib.IntN.{pos};
 ghost use Rattle.words.specs.Signed.{over, bitOf};
 ghost use Rattle.kinds.specs.Kinds.{_to_, inRange};
 ghost use Rattle.kinds.specs.Table.{kindsTable};
-ghost use Rattle.blocks.specs.Blocks.{ticks};
+ghost use Rattle.kinds.specs.Time.{ticks};
 ghost use Rattle.blockfield.specs.Marked.{Lies};
 ghost use Rattle.decoding.specs.Decoded.{blockAt};
 ghost use Rattle.lines.specs.Lines.{lineOf};

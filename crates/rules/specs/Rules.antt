@@ -7,8 +7,9 @@ use lib.Dec.{ltb, eqb}
 use lib.ListN.{getD}
 use lib.IntN.{ℤ, pos, _+ℤ_, _-ℤ_, _*ℤ_}
 use lib.Signed.{ltZ, leZ, quotZ}
-use Rattle.words.specs.Signed.{minus, wordOf, Between}
+use Rattle.words.specs.Signed.{wordOf}
 use Rattle.kinds.specs.Kinds.{parameter}
+use Rattle.kinds.specs.Time.{ticks}
 use Rattle.kinds.specs.declared.Ticks.{Ticks}
 use Rattle.rules.specs.declared.BlockWords.{BlockWords}
 
@@ -18,7 +19,7 @@ three output remembered number = record { output = output; remembered = remember
 
 -- a digital block's: Q, what it remembers, its number
 abbrev pub gives : Bool → Bool → ℕ → BlockWords
-gives q bit n = three (wordOf q) (wordOf bit) (pos n)
+gives q held n = three (wordOf q) (wordOf held) (pos n)
 
 -- Q alone
 abbrev pub shows : Bool → BlockWords
@@ -71,22 +72,22 @@ notGate b = shows (not (bit b 0))
 -- ---- the delays: Ta the ticks run, T the ticks set, e the ticks since the last latch
 
 -- "Ta = min(T, Ta + e)"
-abbrev pub grown : Ticks → Ticks → Ticks → ℕ
-grown ta t e = min (t .0) (ta .0 + e .0)
+abbrev pub grown : Ticks → Ticks → Ticks → Ticks
+grown ta t e = ticks (min (t .0) (ta .0 + e .0))
 
 -- "With Trg 1, Q is 1 exactly when Ta = T"; Trg is remembered
-abbrev pub runs : ℕ → Ticks → BlockWords
-runs ta t = gives (eqb ta (t .0)) true ta
+abbrev pub runs : Ticks → Ticks → BlockWords
+runs ta t = gives (eqb (ta .0) (t .0)) true (ta .0)
 
 -- 9 on-delay: "Trg 0: Ta = 0, Q = 0. Trg rises: Ta = 0. Trg stays 1: Ta = min(T, Ta + e)."
 unfoldable pub onDelay : Bool → Bool → Ticks → Ticks → Ticks → BlockWords
 onDelay false was ta t e = gives false false 0
-onDelay true false ta t e = runs 0 t
+onDelay true false ta t e = runs (ticks 0) t
 onDelay true true ta t e = runs (grown ta t e) t
 
 -- "if that is T, Q = 0 and Ta = 0"
-abbrev pub fades : ℕ → Ticks → BlockWords
-fades ta t = cond (eqb ta (t .0)) (gives false false 0) (gives true false ta)
+abbrev pub fades : Ticks → Ticks → BlockWords
+fades ta t = cond (eqb (ta .0) (t .0)) (gives false false 0) (gives true false (ta .0))
 
 -- 10 off-delay, on R, Trg, Trg of the last scan and Q of the last scan: "R: Q = 0, Ta = 0. Else Trg 1: Q = 1, Ta = 0. Else, Trg just
 -- fell: Ta = 0, Q is 1 exactly when it was 1 and T > 0. Else if Q was 1: Ta = min(T, Ta + e); .. Else no change. Trg is remembered in
@@ -147,12 +148,6 @@ triggersOn value on off q =
 abbrev pub triggered : ℤ → List ℤ → Bool → BlockWords
 triggered value p q = shows (triggersOn value (parameter p 2) (parameter p 3) q)
 
--- what an input, a gain and an offset may be: the function counts on it, the rule does not
-pub record Scaled (input gain offset : ℤ) : Type 0 where
-  pub input-is : Between (minus 32768) (pos 32767) input
-  pub gain-is : Between (minus 1000) (pos 1000) gain
-  pub offset-is : Between (minus 10000) (pos 10000) offset
-
 -- 13 analog threshold trigger: "on actual Ax"
 unfoldable pub thresholdTrigger : ℤ → List ℤ → Bool → BlockWords
 thresholdTrigger ax p q = triggered (actualOf ax (parameter p 0) (parameter p 1)) p q
@@ -166,10 +161,6 @@ compared ax ay p q =
 unfoldable pub multiplexed : Bool → Bool → Bool → List ℤ → BlockWords
 multiplexed en s1 s2 p = three (cond en (parameter p (2 * digit s1 + digit s2)) (pos 0)) (pos 0) (pos 0)
 
--- of A, B, On, Δ the parameters of 13
+-- 16 differential trigger: "as 13, Off = On + Δ": of A, B, On, Δ the parameters of 13
 abbrev pub withOff : List ℤ → List ℤ
 withOff p = parameter p 0 ∷ parameter p 1 ∷ parameter p 2 ∷ (parameter p 2 +ℤ parameter p 3) ∷ []
-
--- 16 differential trigger: "as 13, Off = On + Δ"
-unfoldable pub differentialTrigger : ℤ → List ℤ → Bool → BlockWords
-differentialTrigger ax p q = thresholdTrigger ax (withOff p) q

@@ -121,12 +121,12 @@ pub fn not_gate(bits: [bool; 4]) -> BlockWords
 // ---- the delays
 
 // The ticks run, e ticks later, and no more than those set.
-fn grown_to(ta: Ticks, t: Ticks, e: Ticks) -> u32
+fn grown_to(ta: Ticks, t: Ticks, e: Ticks) -> Ticks
     requires { ⌜ (ta .0 < 2 ^ 31) × (e .0 < 2 ^ 31) ⌝ }
     ensures { λ r. ⌜ r ≡ grown ta t e ⌝ }
 {
     let sum = ta.0 + e.0;
-    if t.0 < sum { t.0 } else { sum }
+    if t.0 < sum { t } else { Ticks(sum) }
 }
 
 // Kind 9, on-delay.
@@ -141,7 +141,7 @@ pub fn on_delay(trg: bool, was: bool, ta: Ticks, t: Ticks, e: Ticks) -> BlockWor
         return given(0 == t.0, true, 0);
     }
     let run = grown_to(ta, t, e);
-    given(run == t.0, true, run)
+    given(run.0 == t.0, true, run.0)
 }
 
 // The off-delay with Q 1 and Trg 0, now and in the last scan.
@@ -150,10 +150,10 @@ fn fading(ta: Ticks, t: Ticks, e: Ticks) -> BlockWords
     ensures { λ r. ⌜ r ≡ fades (grown ta t e) t ⌝ }
 {
     let run = grown_to(ta, t, e);
-    if run == t.0 {
+    if run.0 == t.0 {
         return given(false, false, 0);
     }
-    given(true, false, run)
+    given(true, false, run.0)
 }
 
 // Kind 10, off-delay.

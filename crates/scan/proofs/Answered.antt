@@ -15,9 +15,10 @@ use Rattle.decoding.specs.Held.{rowsAt}
 use Rattle.decoding.specs.Decoded.{Row}
 use Rattle.decoding.specs.declared.Head.{Head}
 use Rattle.circuit.specs.Judged.{Accepts}
+use Rattle.lines.specs.Lines.{linesOf}
 use Rattle.lines.specs.declared.Line.{Line}
 use Rattle.record.specs.Places.{sizeOf, change}
-use Rattle.record.specs.Sound.{linesOf, inScan, sound}
+use Rattle.record.specs.Sound.{inScan, sound}
 use Rattle.record.specs.Written.{linesAt}
 use Rattle.steps.specs.Steps.{doneOf, toGo, turnOf, turned}
 use Rattle.record.proofs.Split.{lines-length}

@@ -20,10 +20,10 @@ use Rattle.circuit.specs.Circuit.{verdict, refused, accepted}
 use Rattle.circuit.specs.Judged.{Accepts, Says}
 use Rattle.circuit.specs.declared.Outcome.{Outcome}
 use Rattle.kept.specs.Keeps.{Bytes}
-use Rattle.lines.specs.Lines.{lineOf}
+use Rattle.lines.specs.Lines.{lineOf, linesOf}
 use Rattle.lines.specs.declared.Line.{Line}
 use Rattle.record.specs.Places.{sizeOf}
-use Rattle.record.specs.Sound.{linesOf, inScan, sound}
+use Rattle.record.specs.Sound.{inScan, sound}
 use Rattle.record.specs.Written.{linesAt, Stand}
 use Rattle.steps.specs.Steps.{toGo}
 use Rattle.steps.specs.Wired.{AllFine}

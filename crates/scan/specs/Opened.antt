@@ -10,7 +10,7 @@ use Rattle.decoding.specs.Held.{rowsAt}
 use Rattle.decoding.specs.declared.Head.{Head}
 use Rattle.circuit.specs.Circuit.{verdict, accepted}
 use Rattle.circuit.specs.declared.Outcome.{Outcome}
-use Rattle.record.specs.Sound.{linesOf}
+use Rattle.lines.specs.Lines.{linesOf}
 use Rattle.record.specs.Written.{linesAt}
 use Rattle.steps.specs.Wired.{Runs}
 use Rattle.destinations.specs.Slots.{Rows}

@@ -14,15 +14,17 @@ use borrow.Author.Tests.{ltb-true, ltb-false, eqb-true, eqb-false}
 use Rattle.words.specs.Signed.{over, Between}
 use Rattle.words.proofs.Bounds.{between-sides, sides-between}
 use Rattle.kinds.specs.Kinds.{Sort, digital, analog, In, sixteen, sortRange, kindOf}
+use Rattle.kinds.specs.Time.{ticks}
 use Rattle.connectors.specs.Connectors.{Connector, classOf, namesBlock}
 use Rattle.kept.specs.Keeps.{All}
-use Rattle.blocks.specs.Blocks.{Sixteen, ticks}
-use Rattle.blocks.specs.Blocks as blocks
+use Rattle.blocks.specs.Fit as blocks
+use Rattle.blocks.specs.Fit.{Sixteen}
 use Rattle.blocks.proofs.Stays.{stays-sound}
+use Rattle.lines.specs.Lines.{lineAt}
 use Rattle.lines.specs.declared.Line.{Line}
 use Rattle.record.specs.Places.{elapsed, input, flag, analogFlag, block, output, remembered, number, sizeOf, indexOf, at, word, wordsOf}
 use Rattle.record.specs.Places as places
-use Rattle.record.specs.Sound.{lineAt, rangeOf, fitsAt, inScan, atRest}
+use Rattle.record.specs.Sound.{rangeOf, fitsAt, inScan, atRest}
 use Rattle.record.proofs.Located.{Spot, is-phase, is-done, is-mark, is-elapsed, is-input, is-analog, is-flag, is-analogFlag, is-block, spot, place-index, put-words-length, put-words-away, put-words-output, put-words-remembered, put-words-number}
 use Rattle.record.proofs.Held.{Sound, word-in}
 use Rattle.steps.specs.Steps.{sourceOf, inputOf, valueFrom, bitsOf, valuesOf, becomes, step, countFrom, order, along, stepsFrom}

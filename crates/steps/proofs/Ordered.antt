@@ -11,16 +11,18 @@ use lib.Seq.{ext-getD}
 use lib.IntN.{ℤ, pos}
 use borrow.Author.Tests.{ltb-true, ltb-false}
 use Rattle.words.specs.Signed.{over}
+use Rattle.kinds.specs.Time.{ticks}
 use Rattle.rules.specs.declared.BlockWords.{BlockWords}
 use Rattle.connectors.specs.Connectors.{Connector, classOf, namesBlock}
-use Rattle.blocks.specs.Blocks.{ticks, workedOut}
+use Rattle.blocks.specs.Blocks.{workedOut}
 use Rattle.kept.specs.Keeps.{All}
 use Rattle.kept.proofs.Lists.{all-map}
+use Rattle.lines.specs.Lines.{lineAt}
 use Rattle.lines.specs.declared.Line.{Line}
 use Rattle.record.specs.Places.{Place, elapsed, block, output, number, sizeOf, indexOf, at, word, wordsOf}
-use Rattle.record.specs.Sound.{lineAt}
-use Rattle.steps.specs.Steps.{sourceOf, inputOf, orNone, sources, bitsOf, valuesOf, becomes, step, countFrom, order, along}
+use Rattle.steps.specs.Steps.{sourceOf, inputOf, bitsOf, valuesOf, becomes, step, countFrom, order, along}
 use Rattle.steps.specs.Wired.{Wired}
+use Rattle.steps.specs.Reads.{orNone, sources}
 use Rattle.steps.proofs.Keeps.{Connects, to-nothing, to-input, to-flag, to-analog, to-analogFlag, to-block, connects, Away, step-words, as-many, take-count, drop-count, all-count, along-append, along-length, along-away, count-head}
 use Rattle.steps.proofs.Reading.{each-source, Agree, bits-same, values-same}
 

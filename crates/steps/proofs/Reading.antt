@@ -14,10 +14,11 @@ use Rattle.rules.specs.declared.BlockWords.{BlockWords}
 use Rattle.connectors.specs.Connectors.{Connector}
 use Rattle.kept.specs.Keeps.{All}
 use Rattle.kept.proofs.Lists.{all-map}
+use Rattle.lines.specs.Lines.{lineAt}
 use Rattle.lines.specs.declared.Line.{Line}
 use Rattle.record.specs.Places.{Place, done, elapsed, block, output, remembered, number, indexOf, word, put, putWords}
-use Rattle.record.specs.Sound.{lineAt}
-use Rattle.steps.specs.Steps.{sourceOf, inputOf, orNone, sources, readBy, readFrom, valueFrom, plainBit, bitFrom, bitsOf, valuesOf, becomes, step, order, along, stepsFrom}
+use Rattle.steps.specs.Steps.{sourceOf, inputOf, readFrom, valueFrom, plainBit, bitFrom, bitsOf, valuesOf, becomes, step, order, along, stepsFrom}
+use Rattle.steps.specs.Reads.{orNone, sources, readBy}
 use Rattle.steps.proofs.Keeps.{Connects, to-nothing, to-input, to-flag, to-analog, to-analogFlag, to-block, connects}
 
 -- ---- what a line reads, connector by connector

@@ -9,14 +9,15 @@ use lib.ListN.{length, getD, take, drop}
 use lib.IntN.{ℤ, pos}
 use Rattle.words.specs.Signed.{over, bitOf}
 use Rattle.kinds.specs.Kinds.{kindOf}
+use Rattle.kinds.specs.Time.{ticks}
 use Rattle.rules.specs.declared.BlockWords.{BlockWords}
 use Rattle.connectors.specs.Connectors.{Connector, classOf, isInverted}
-use Rattle.blocks.specs.Blocks.{ticks, workedOut}
+use Rattle.blocks.specs.Blocks.{workedOut}
+use Rattle.lines.specs.Lines.{lineAt}
 use Rattle.lines.specs.declared.Line.{Line}
-use Rattle.record.specs.Places.{Place, phase, done, mark, elapsed, input, analog, flag, analogFlag, block, output, remembered, number, word, wordsOf, put, putWords}
-use Rattle.record.specs.Sound.{lineAt}
+use Rattle.record.specs.Places.{Place, done, elapsed, input, analog, flag, analogFlag, output, word, wordsOf, put, putWords}
 
--- ---- which places a block reads, and whose a place is
+-- ---- what a connector reads
 
 -- the place that a connector reads: "0 unused .., 1 input I .., 2 lo .., 3 hi .., 4 flag M .., 6 digital block, 7 analog input .., 8 analog
 -- flag AM .., 9 analog block"
@@ -38,43 +39,12 @@ sourceOf c =
     (classOf c)
     none
 
--- connector j of a line, from 0
-abbrev pub inputOf : Line → ℕ → Connector
-inputOf line j = record { class = getD (line .classes) j 0; number = getD (line .numbers) j 0 }
-
-abbrev pub orNone : Option Place → List Place → List Place
-orNone none l = l
-orNone (some p) l = p ∷ l
-
--- what a line's inputs read
-abbrev pub sources : Line → List Place
-sources line =
-    orNone (sourceOf (inputOf line 0))
-    (orNone (sourceOf (inputOf line 1)) (orNone (sourceOf (inputOf line 2)) (orNone (sourceOf (inputOf line 3)) [])))
-
--- what the step of block k reads: its inputs, its own words, e
-abbrev pub readBy : ℕ → Line → List Place
-readBy k line = output k ∷ remembered k ∷ number k ∷ elapsed ∷ sources line
-
--- the block whose word stands at a place, 0 for none
-abbrev pub owner : Place → ℕ
-owner phase = 0
-owner done = 0
-owner mark = 0
-owner elapsed = 0
-owner (input k) = 0
-owner (analog k) = 0
-owner (flag k) = 0
-owner (analogFlag k) = 0
-owner (block k j) = k
-
--- ---- the inputs of a block: "resolved together before the rule is applied"
-
+-- the word at a place, 0 where there is none
 abbrev pub readFrom : List ℤ → Option Place → ℤ
 readFrom l none = pos 0
 readFrom l (some p) = word l p
 
--- what an analog connector reads
+-- an analog connector
 abbrev pub valueFrom : List ℤ → Connector → ℤ
 valueFrom l c = readFrom l (sourceOf c)
 
@@ -86,10 +56,17 @@ plainBit l unused c = cond (eqb (classOf c) 0) unused (cond (eqb (classOf c) 3) 
 unfoldable pub bitFrom : List ℤ → Bool → Connector → Bool
 bitFrom l unused c = not (Bool·beq (isInverted c) (plainBit l unused c))
 
--- "at most four digital inputs"
+-- ---- the inputs of a block: "resolved together before the rule is applied"
+
+-- connector j of a line, from 0
+abbrev pub inputOf : Line → ℕ → Connector
+inputOf line j = record { class = getD (line .classes) j 0; number = getD (line .numbers) j 0 }
+
+-- digital input j
 abbrev pub bitAt : List ℤ → Line → ℕ → Bool
 bitAt l line j = bitFrom l (kindOf (line .kind) .unused) (inputOf line j)
 
+-- "at most four digital inputs"
 unfoldable pub bitsOf : List ℤ → Line → List Bool
 bitsOf l line = bitAt l line 0 ∷ bitAt l line 1 ∷ bitAt l line 2 ∷ bitAt l line 3 ∷ []
 
@@ -97,12 +74,14 @@ bitsOf l line = bitAt l line 0 ∷ bitAt l line 1 ∷ bitAt l line 2 ∷ bitAt l
 unfoldable pub valuesOf : List ℤ → Line → List ℤ
 valuesOf l line = valueFrom l (inputOf line 0) ∷ valueFrom l (inputOf line 1) ∷ []
 
--- ---- a block's step: its three words by its rule
+-- ---- a block's step
 
+-- what its three words become, by its rule
 unfoldable pub becomes : List ℤ → ℕ → Line → BlockWords
 becomes l k line =
     workedOut (line .kind) (bitsOf l line) (valuesOf l line) (line .prepared) (wordsOf l k) (ticks (over (word l elapsed)))
 
+-- it writes its block's three words alone: "During a scan M and AM show their old values"
 unfoldable pub step : List Line → ℕ → List ℤ → List ℤ
 step lines k l = putWords l k (becomes l k (lineAt lines k))
 
@@ -130,6 +109,7 @@ stepsFrom lines d m l = along lines (take m (drop d (order lines))) l
 abbrev pub doneOf : List ℤ → ℕ
 doneOf l = over (word l done)
 
+-- "blocks to go"
 abbrev pub toGo : List Line → List ℤ → ℕ
 toGo lines l = length lines - doneOf l
 

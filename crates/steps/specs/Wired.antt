@@ -6,14 +6,14 @@ use mathlib.Core.List.{List}
 use lib.ListN.{length, getD}
 use lib.IntN.{ℤ}
 use Rattle.kinds.specs.Kinds.{known}
+use Rattle.blocks.specs.Fit.{Fit, Sixteen}
 use Rattle.connectors.specs.Connectors.{Connector, classOf}
 use Rattle.blockfield.specs.Marked.{Lies}
-use Rattle.blocks.specs.Blocks.{Fit, Sixteen}
 use Rattle.decoding.specs.Decoded.{blockAt}
-use Rattle.lines.specs.Lines.{lineOf}
+use Rattle.lines.specs.Lines.{lineOf, lineAt}
 use Rattle.lines.specs.declared.Line.{Line}
 use Rattle.record.specs.Places.{sizeOf}
-use Rattle.record.specs.Sound.{lineAt, sound}
+use Rattle.record.specs.Sound.{sound}
 use Rattle.record.specs.Written.{linesAt, Stand}
 use Rattle.steps.specs.Steps.{inputOf, valuesOf}
 

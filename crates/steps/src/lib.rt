@@ -3,7 +3,7 @@ ghost use mathlib.Core.Path.{_≡_};
 ghost use Prim.Native.Nat.{_+_, _-_, _≤_, _<_, min};
 ghost use lib.ListN.{getD};
 ghost use Rattle.kinds.specs.Table.{kindsTable};
-ghost use Rattle.blocks.specs.Blocks.{Sixteen};
+ghost use Rattle.blocks.specs.Fit.{Sixteen};
 ghost use Rattle.decoding.specs.Decoded.{blockAt};
 ghost use Rattle.lines.specs.Lines.{lineOf};
 ghost use Rattle.record.specs.Places.{putWords};

@@ -3,7 +3,8 @@ use lib.IntN.{ℤ, pos, _*ℤ_}
 use lib.Signed.{quotZ}
 use Rattle.words.specs.Signed.{minus, Between}
 use Rattle.words.proofs.Ranges.{product-between, quotient-between, sum-between}
-use Rattle.rules.specs.Rules.{Scaled, actualOf}
+use Rattle.rules.specs.Rules.{actualOf}
+use Rattle.rules.specs.Scaled.{Scaled}
 
 module _ {x a b : ℤ} (s : Scaled x a b) where
   pub quotient-range : Between (minus 327680) (pos 327680) (quotZ (x *ℤ a) (pos 100))

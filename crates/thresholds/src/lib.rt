@@ -3,7 +3,8 @@ ghost use mathlib.Core.Path.{_≡_};
 ghost use lib.IntN.{pos};
 ghost use Rattle.words.specs.Signed.{Between, minus};
 ghost use Rattle.kinds.specs.Kinds.{parameter};
-ghost use Rattle.rules.specs.Rules.{actualOf, triggersOn, triggered, Scaled, thresholdTrigger, compared, withOff};
+ghost use Rattle.rules.specs.Rules.{actualOf, triggersOn, triggered, thresholdTrigger, compared, withOff};
+ghost use Rattle.rules.specs.Scaled.{Scaled};
 use rules::BlockWords;
 
 // The actual value of an analog input: input · A / 100 toward zero, plus B.

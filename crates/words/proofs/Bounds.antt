@@ -11,8 +11,8 @@ use lib.Signed.{leZ, quotZ, nonNeg}
 use mir.Syntax.{Width}
 use mir.Val.{Fits, SFits, hbits}
 use mir.ValLaws.{half-full}
-use Rattle.words.specs.Signed.{Between, over, under}
-use Rattle.words.proofs.Sides.{abs-is, fits-sides, sides-fit, leZ-true, le-leZ, neg-over, neg-under, add-sides, sub-sides′, quot-over, quot-under}
+use Rattle.words.specs.Signed.{Between, over}
+use Rattle.words.proofs.Sides.{under, abs-is, fits-sides, sides-fit, leZ-true, le-leZ, neg-over, neg-under, add-sides, sub-sides′, quot-over, quot-under}
 
 -- ---- the size
 
@@ -99,6 +99,11 @@ count-between h = sides-between (omega arith) (omega arith)
 
 pub zero-between : {m : ℕ} → Between (pos 0) (pos m) (pos 0)
 zero-between = count-between (omega arith)
+
+-- at or over an end that is not negative, a number is a count
+pub count-is : {l : ℕ} {g x : ℤ} → Between (pos l) g x → pos (over x) ≡ x
+count-is {x = pos n} e = refl
+count-is {x = negsuc n} e = let s = between-sides e in absurd (omega arith)
 
 -- at two literals: `between-abs m e (lit≤ tt) (lit≤ tt)`
 pub between-abs : {l g x : ℤ} (m : ℕ) → Between l g x → under l ≤ over l + m → over g ≤ under g + m → natAbs x ≤ m

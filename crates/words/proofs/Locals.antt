@@ -11,8 +11,8 @@ use lib.Signed.{mag, leZ, ltZ}
 use mir.Syntax.{Width, w32}
 use mir.Val.{SFits, toZ, ofZ}
 use mir.Facts.{toZ-ofZ}
-use Rattle.words.specs.Signed.{isWithin, over, under}
-use Rattle.words.proofs.Sides.{same, leZ-true, le-leZ, ltZ-true, ltZ-false}
+use Rattle.words.specs.Signed.{isWithin, over}
+use Rattle.words.proofs.Sides.{under, same, leZ-true, le-leZ, ltZ-true, ltZ-false}
 
 abbrev pub read : Width → ℤ → ℤ
 read w z = toZ w (ofZ w z)

@@ -13,7 +13,12 @@ use lib.IntN.{ℤ, pos, negsuc, natAbs, negℤ, subℕ, _+ℤ_, _-ℤ_}
 use lib.Signed.{leZ, ltZ, quotZ, _≤ℤ_}
 use mir.Syntax.{Width}
 use mir.Val.{SFits, hbits}
-use Rattle.words.specs.Signed.{over, under}
+use Rattle.words.specs.Signed.{over}
+
+-- how far a number is under zero
+abbrev pub under : ℤ → ℕ
+under (pos n) = 0
+under (negsuc n) = suc n
 
 pub one-side : (z : ℤ) → (under z ≡ 0) ⊎ (over z ≡ 0)
 one-side (pos n) = inl refl

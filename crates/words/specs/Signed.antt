@@ -1,4 +1,4 @@
--- Signed words: as a bit, as a count, as an amount; a number between two ends.
+-- Signed words: as an amount, as a bit; a number between two ends.
 use mathlib.Core.Path.{_≡_}
 use mathlib.Core.Bool.{Bool, true, false, _&&_}
 use Prim.Native.Nat.{ℕ, zero, suc}
@@ -10,14 +10,10 @@ abbrev pub minus : ℕ → ℤ
 minus zero = pos 0
 minus (suc n) = negsuc n
 
--- how far a number is over zero, and how far under it; one of the two is 0
+-- the amount of a number, 0 for a negative one
 abbrev pub over : ℤ → ℕ
 over (pos n) = n
 over (negsuc n) = 0
-
-abbrev pub under : ℤ → ℕ
-under (pos n) = 0
-under (negsuc n) = suc n
 
 -- a word as a bit: 0 is false
 abbrev pub bitOf : ℤ → Bool

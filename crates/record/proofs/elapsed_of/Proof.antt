@@ -1,7 +1,7 @@
 -- `record::elapsed_of` meets its contract: e stands fourth. Assumes nothing.
 use mathlib.Core.Path.{ap}
 use Rattle.words.proofs.Locals.{back-ok}
-use Rattle.blocks.specs.Blocks.{ticks}
+use Rattle.kinds.specs.Time.{ticks}
 use Rattle.record.specs.Places.{indexOf}
 use borrow.Author.Needs.{needs}
 use Rattle.record.proofs.elapsed_of.Statement.{statement}

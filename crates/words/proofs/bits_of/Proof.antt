@@ -6,8 +6,8 @@ use lib.IntN.{ℤ, pos, negsuc, _-ℤ_}
 use lib.Signed.{_≤ℤ_}
 use mir.Syntax.{w32}
 use mir.Val.{SFits, ofZ}
-use Rattle.words.specs.Signed.{over, under}
-use Rattle.words.proofs.Sides.{sub-sides′, fits-sides, sides-fit, sides-≤, ≤-up}
+use Rattle.words.specs.Signed.{over}
+use Rattle.words.proofs.Sides.{under, sub-sides′, fits-sides, sides-fit, sides-≤, ≤-up}
 use Rattle.words.proofs.Locals.{back, below, not-below}
 use borrow.Author.Needs.{needs}
 use Rattle.words.proofs.bits_of.Statement.{statement}
