@@ -2,10 +2,9 @@
 // and 551 scans in turns, of which it shows the first two and the last two, and a latch that must be refused.
 ghost use mathlib.Core.Path.{_≡_};
 ghost use lib.ListN.{length};
+use report::ROOM;
 
-// The most bytes of a circuit, and one more, as `report` takes them; the most blocks and the record that has room for them.
-const ROOM: usize = 65537;
-
+// The most blocks, and the words of the record that has room for them.
 const BLOCKS: usize = 400;
 
 const RECORD: usize = 1364;

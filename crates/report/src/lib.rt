@@ -5,7 +5,7 @@ use refusals::Answer;
 // The most bytes that a program takes, and one more, so that a longer input shows.
 const MOST: usize = 65536;
 
-const ROOM: usize = 65537;
+pub const ROOM: usize = 65537;
 
 // Bytes as they are.
 pub fn text(bytes: &[u8]) {
