@@ -34,9 +34,9 @@ use Rattle.calls.specs.Fine.{RowFine, FinePlan}
 -- ---- connectors
 
 -- a connector that is allowed, wherever it stands
-pub allowed-wired : (place n : ℕ) (c : Connector) → Allowed ours place n c → Wired c
+pub allowed-wired : (spot n : ℕ) (c : Connector) → Allowed ours spot n c → Wired c
 unfolding least greatest
-allowed-wired place n c a =
+allowed-wired spot n c a =
     record {
       small = a .fits;
       input = λ e. rw e at (a .high);
@@ -69,7 +69,7 @@ input-is b (suc (suc (suc (suc j)))) h = let z : ⊥ = omega arith in absurd z
 
 module _ (n : ℕ) (before : List Block) (b : Block) (r : Ready ours n before b) where
   -- of each connector what holds of every source, and of an unused one
-  each-connector : (P : Connector → Type 0) → ((place : ℕ) (c : Connector) → Source ours place n before c → P c) → P unused
+  each-connector : (P : Connector → Type 0) → ((spot : ℕ) (c : Connector) → Source ours spot n before c → P c) → P unused
       → (j : ℕ) → P (nth (b .inputs) j)
   each-connector P source without j = go (ltb j d) (ltb j (d + a)) refl refl
     where
@@ -85,7 +85,7 @@ module _ (n : ℕ) (before : List Block) (b : Block) (r : Ready ours n before b)
       go false false e f = rw (r .none j (ltb-false j (d + a) f)) without
 
   connector-wired : (j : ℕ) → Wired (nth (b .inputs) j)
-  connector-wired = each-connector Wired (λ place c x. allowed-wired place n c (x .allowed)) unused-wired
+  connector-wired = each-connector Wired (λ spot c x. allowed-wired spot n c (x .allowed)) unused-wired
 
   ready-fine : Fine (lineOf b)
   unfolding lineOf
@@ -100,7 +100,7 @@ module _ (n : ℕ) (before : List Block) (b : Block) (r : Ready ours n before b)
     connector-names : (j : ℕ) → Names k (nth (b .inputs) j)
     connector-names =
         each-connector (Names k)
-        (λ place c x. record { earlier = λ e. omega (arith, x .refers .there e, later) })
+        (λ spot c x. record { earlier = λ e. omega (arith, x .refers .there e, later) })
         (record { earlier = λ e. omega (arith, later) })
 
     ready-reads : All (Before k) (sources (lineOf b))

@@ -12,8 +12,8 @@ use Rattle.kept.specs.Keeps.{Allowed, Refers}
 use Rattle.lines.specs.Lines.{unused, nth, lineOf}
 
 -- a connector that is allowed where it stands, and that names no block but one of those before, of the right sort
-pub record Source (limits : Limits) (place n : ℕ) (before : List Block) (c : Connector) : Type 0 where
-  pub allowed : Allowed limits place n c
+pub record Source (limits : Limits) (spot n : ℕ) (before : List Block) (c : Connector) : Type 0 where
+  pub allowed : Allowed limits spot n c
   pub refers : Refers before c
 
 -- of a block of an accepted circuit of n blocks, and of the blocks before it
