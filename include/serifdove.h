@@ -120,6 +120,10 @@ enum serifdove_record_word {
    for the circuit, as by check and with check's place; 20 for a record that has not SERIFDOVE_RECORD_WORDS(n) words; then what
    stands at the call. The first that holds is answered, and nothing lent changes.
 
+   A scan goes from an accepted latch to an accepted publish. However its blocks are shared out among runs, and whatever is called in
+   between but cold start, the publish leaves the record and the outputs of the scan done in one run; until then no output word and
+   no flag changes.
+
    Lengths count bytes of the circuit and words of the others. A null pointer with length 0 is an empty slice. The slices of one call
    may not overlap. A call reads and writes nothing outside them, never writes circuit and inputs, and keeps nothing between calls:
    calls on different records and outputs may run in any number of threads at once. */
