@@ -51,18 +51,18 @@ module _ (s : List ℕ) (number place : ℕ) (e : verdict s ≡ refused number p
   listed : (x : AnyCall) → Listed s x number place
   listed x = let r = refusal-listed ours s number place e in of-circuit (r .some) (r .most) (r .within)
 
-  record-kept : (x : Call) (l : List ℤ) → recordAfter s x l ≡ l
+  record-untouched : (x : Call) (l : List ℤ) → recordAfter s x l ≡ l
   unfolding recordAfter
-  record-kept x l = rw e
+  record-untouched x l = rw e
 
-  outputs-kept : (x : Call) (l o : List ℤ) → outputsAfter s x l o ≡ o
+  outputs-untouched : (x : Call) (l o : List ℤ) → outputsAfter s x l o ≡ o
   unfolding outputsAfter
-  outputs-kept x l o = rw e
+  outputs-untouched x l o = rw e
 
   nothing-changes : (x : Call) (m : Moment) → after s (on x) m ≡ m
   nothing-changes x m =
-      same-moment (record-kept (made x (m .outputs)) (m .rec))
-      (ap (λ o. o ++ drop (lends x) (m .outputs)) (outputs-kept (made x (m .outputs)) (m .rec) (take (lends x) (m .outputs)))
+      same-moment (record-untouched (made x (m .outputs)) (m .rec))
+      (ap (λ o. o ++ drop (lends x) (m .outputs)) (outputs-untouched (made x (m .outputs)) (m .rec) (take (lends x) (m .outputs)))
       ∙ take-append-drop (lends x) (m .outputs))
 
   refused-answers : (x : AnyCall) (m : Moment) → Answered s x m

@@ -90,13 +90,6 @@ turned-none lines l s =
     rw (zero-min (toGo lines l), steps-zero lines (doneOf l) l, add-zero (doneOf l), count-is (word-in lines l s done tt))
     (set-getD l (indexOf done) (pos 0))
 
--- beyond the blocks to go a turn works out no more
-pub turned-most : (lines : List Line) (m : ℕ) (l : List ℤ) → toGo lines l ≤ m → turned lines m l ≡ turned lines (toGo lines l) l
-unfolding turned
-turned-most lines m l h =
-    let e : turnOf lines m l ≡ turnOf lines (toGo lines l) l = omega arith in
-    ap (λ (k : ℕ). put (stepsFrom lines (doneOf l) k l) done (pos (doneOf l + k))) e
-
 -- a turn of the blocks to go leaves none
 pub turned-all : (lines : List Line) (l : List ℤ) → 1 < length l → toGo lines (turned lines (toGo lines l) l) ≡ 0
 turned-all lines l long = rw (turned-to-go lines (toGo lines l) l long) (omega arith)
