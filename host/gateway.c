@@ -114,64 +114,59 @@ static void set_inputs(char *line) {
 
 /* ---- time */
 
-static struct timespec last_latch;
-static bool has_latched;
+/* e for a latch, and up to when it counts. */
+typedef struct {
+    int32_t e;
+    struct timespec until;
+} elapsed;
 
-static int64_t nanoseconds_since(const struct timespec *then, const struct timespec *now) {
-    return (int64_t)(now->tv_sec - then->tv_sec) * 1000000000 + (now->tv_nsec - then->tv_nsec);
-}
+static struct timespec last_latch; /* up to when the last latch counted */
+static bool has_latched;
 
 /* The ticks that the clock counted since the last latch, 0 at the first one. A rest below a tick, or above the greatest e, counts at
    the next. */
-static int32_t ticks_by_the_clock(void) {
-    enum { TICK = 10000000 };
-    struct timespec now;
-    clock_gettime(CLOCK_MONOTONIC, &now);
-    if (!has_latched) {
-        last_latch = now;
-        return 0;
-    }
-    const int64_t counted = nanoseconds_since(&last_latch, &now) / TICK, e = counted > GREATEST_E ? GREATEST_E : counted;
-    const int64_t later = last_latch.tv_nsec + e * TICK;
-    last_latch.tv_sec += (time_t)(later / 1000000000);
-    last_latch.tv_nsec = (long)(later % 1000000000);
-    return (int32_t)e;
+static elapsed by_the_clock(struct timespec now) {
+    enum { TICK = 10000000, SECOND = 1000000000 };
+    if (!has_latched)
+        return (elapsed){0, now};
+    const int64_t counted = ((int64_t)(now.tv_sec - last_latch.tv_sec) * SECOND + (now.tv_nsec - last_latch.tv_nsec)) / TICK;
+    const int64_t e = counted > GREATEST_E ? GREATEST_E : counted, nanoseconds = last_latch.tv_nsec + e * TICK;
+    return (elapsed){(int32_t)e, {last_latch.tv_sec + (time_t)(nanoseconds / SECOND), (long)(nanoseconds % SECOND)}};
 }
 
 /* e by the word, or by the clock if there is none; else it is told. */
-static bool read_e(const char *word, int32_t *e) {
+static bool read_elapsed(const char *word, elapsed *time) {
+    struct timespec now;
     uint64_t ticks;
+    clock_gettime(CLOCK_MONOTONIC, &now);
     if (word == NULL) {
-        *e = ticks_by_the_clock();
+        *time = by_the_clock(now);
         return true;
     }
     if (!read_time(word, &ticks) || ticks > GREATEST_E) {
         refuse("`%s` is no time for latch; expected is 0 to %d ticks of 10 ms, such as 50, 500ms, 2.5s or 3min", word, GREATEST_E);
         return false;
     }
-    clock_gettime(CLOCK_MONOTONIC, &last_latch);
-    *e = (int32_t)ticks;
+    *time = (elapsed){(int32_t)ticks, now};
     return true;
 }
 
 /* ---- a scan */
 
-static bool make_latch(int32_t e) {
-    const bool accepted = is_accepted("latch", latch(&gateway, e));
-    has_latched = has_latched || accepted;
-    return accepted;
+static bool make_latch(const elapsed *time) {
+    if (!is_accepted("latch", latch(&gateway, time->e)))
+        return false;
+    last_latch = time->until;
+    has_latched = true;
+    return true;
 }
 
 static void open_scan(char *line) {
-    int32_t e;
+    elapsed time;
     const char *word = next_word(&line);
-    if (is_in_scan(&gateway)) {
-        make_latch(0);
+    if (!is_end(line) || !read_elapsed(word, &time) || !make_latch(&time))
         return;
-    }
-    if (!is_end(line) || !read_e(word, &e) || !make_latch(e))
-        return;
-    printf("latch: e %" PRId32 " (%s); ", e, time_of(e).text);
+    printf("latch: e %" PRId32 " (%s); ", time.e, time_of(time.e).text);
     print_inputs();
     printf("\n");
 }
@@ -213,9 +208,9 @@ static void close_scan(char *line) {
 }
 
 /* Latch, turns and publish; how many turns there were, 0 if a call was refused. */
-static size_t whole_scan(int32_t e) {
+static size_t whole_scan(const elapsed *time) {
     size_t turns = 0;
-    if (!make_latch(e))
+    if (!make_latch(time))
         return 0;
     for (serifdove_answer answer = {.second = 1}; answer.second > 0; turns++)
         if (!is_accepted("run", answer = run(&gateway, turn)))
@@ -223,29 +218,34 @@ static size_t whole_scan(int32_t e) {
     return is_accepted("publish", publish(&gateway)) ? turns : 0;
 }
 
+/* One scan of so many; it is told if it is the last or changed an output. False if a call was refused. */
+static bool one_scan(const char *word, uint64_t i, uint64_t count) {
+    elapsed time;
+    int32_t before[SERIFDOVE_OUTPUT_WORD_COUNT];
+    memcpy(before, gateway.outputs, sizeof before);
+    if (!read_elapsed(word, &time))
+        return false;
+    const size_t turns = whole_scan(&time);
+    if (turns == 0)
+        return false;
+    if (i == count || memcmp(before, gateway.outputs, sizeof before) != 0) {
+        printf("scan %" PRIu64 " of %" PRIu64 ": e %" PRId32 " (%s), %zu turn%s; ", i, count, time.e, time_of(time.e).text, turns,
+               turns == 1 ? "" : "s");
+        print_outputs(before);
+    }
+    return true;
+}
+
 static void whole_scans(char *line) {
-    const char *time = next_word(&line), *times = next_word(&line);
+    const char *word = next_word(&line), *times = next_word(&line);
     uint64_t count = 1;
     if (times != NULL && !read_number(times, 1, MOST_SCANS, &count)) {
         refuse("`%s` is no number of scans; expected is 1 to %d", times, MOST_SCANS);
         return;
     }
-    if (!is_end(line))
-        return;
-    for (uint64_t i = 1; i <= count; i++) {
-        int32_t e, before[SERIFDOVE_OUTPUT_WORD_COUNT];
-        memcpy(before, gateway.outputs, sizeof before);
-        if (!read_e(time, &e))
-            return;
-        const size_t turns = whole_scan(e);
-        if (turns == 0)
-            return;
-        if (i < count && memcmp(before, gateway.outputs, sizeof before) == 0)
-            continue;
-        printf("scan %" PRIu64 " of %" PRIu64 ": e %" PRId32 " (%s), %zu turn%s; ", i, count, e, time_of(e).text, turns,
-               turns == 1 ? "" : "s");
-        print_outputs(before);
-    }
+    bool goes_on = is_end(line);
+    for (uint64_t i = 1; i <= count && goes_on; i++)
+        goes_on = one_scan(word, i, count);
 }
 
 static void set_turn(char *line) {
@@ -373,28 +373,30 @@ static void quit(char *line) { is_over = is_end(line); }
 static void help(char *line);
 
 static const struct {
-    const char *name, *words, *what;
+    const char *name, *words, *what, *more;
     void (*carry_out)(char *line);
 } commands[] = {
-    {"set", "INPUT VALUE ..", "inputs for the next latch: I1 to I24 take 0 or 1, AI1 to AI8 take 0 to 1000; alone: shows them",
-     set_inputs},
-    {"latch", "[TIME]",
-     "reads the inputs and opens a scan; TIME since the last latch: 50 (ticks of 10 ms), 500ms, 2.5s, 3min; alone: by the clock",
+    {"set", "INPUT VALUE ..", "inputs for the next latch; alone: shows them",
+     "I1 to I24 take 0 or 1, AI1 to AI8 take 0 to 1000: set I1 1 AI2 250. A line with a fault sets nothing.", set_inputs},
+    {"latch", "[TIME]", "reads the inputs and opens a scan",
+     "TIME is what passed since the last latch: 50 (ticks of 10 ms), 500ms, 2.5s, 3min. Alone: by the clock, 0 at the first.",
      open_scan},
-    {"run", "[N]", "works out the next N blocks; alone: a turn", run_blocks},
-    {"publish", "", "closes the scan: outputs and flags change, all at once", close_scan},
-    {"scan", "[TIME [COUNT]]", "latch, turns and publish, COUNT times; prints the last scan and those in which an output changed",
-     whole_scans},
-    {"turn", "N", "how many blocks a turn works out from now on, or `all`", set_turn},
-    {"look", "[FIRST [LAST]]", "shows phase, inputs, flags, outputs as published, and the blocks, marked where the scan stands",
+    {"run", "[N]", "works out the next N blocks; alone: a turn", "N is 0 to 4294967295. Outputs and flags stay as they were.",
+     run_blocks},
+    {"publish", "", "closes the scan: outputs and flags change, all at once", "Refused while blocks are to go.", close_scan},
+    {"scan", "[TIME [COUNT]]", "latch, turns and publish, COUNT times",
+     "Printed are the last scan and those in which an output changed. COUNT is 1 to 1000000.", whole_scans},
+    {"turn", "N", "how many blocks a turn works out from now on", "N is 1 to 4294967295, or all.", set_turn},
+    {"look", "[FIRST [LAST]]", "shows where the scan stands, and the blocks", "Between any two blocks. Outputs are shown as published.",
      look_at},
-    {"warm", "", "warm start: begins anew, retentive blocks are kept; refused in a scan", start_warm},
-    {"cold", "", "cold start: begins anew; a scan that is open is given up", start_cold},
-    {"save", "FILE", "writes the record to FILE, whole or not at all", save_file},
-    {"load", "FILE", "takes the record from FILE, if it is one of this circuit; refused in a scan", load_file},
-    {"trace", "[FILE]", "from now on writes every call to FILE, which must not be there yet; alone: ends the trace", trace_file},
-    {"help", "[COMMAND]", "tells the commands, or one of them", help},
-    {"quit", "", "ends; so does the end of input", quit},
+    {"warm", "", "warm start: begins anew, retentive blocks are kept", "Refused in a scan.", start_warm},
+    {"cold", "", "cold start: begins anew", "A scan that is open is given up.", start_cold},
+    {"save", "FILE", "writes the record to FILE, whole or not at all", "It replaces a record file, and nothing else.", save_file},
+    {"load", "FILE", "takes the record from FILE", "It must be whole, of this circuit, and sound. Refused in a scan.", load_file},
+    {"trace", "[FILE]", "writes every call from now on to FILE; alone: ends it", "FILE must not be there yet. replay plays it again.",
+     trace_file},
+    {"help", "[COMMAND]", "tells the commands, or more of one", "A word that begins with # begins a comment.", help},
+    {"quit", "", "ends; so does the end of input", "A trace is ended; a record that was not saved is lost.", quit},
 };
 enum { COMMANDS = sizeof commands / sizeof *commands };
 
@@ -410,13 +412,14 @@ static size_t command_of(const char *word) {
 
 static void help(char *line) {
     const char *word = next_word(&line);
-    const size_t only = word == NULL ? 0 : command_of(word);
-    if (only == COMMANDS || !is_end(line))
+    const size_t only = word == NULL ? COMMANDS : command_of(word);
+    if ((word != NULL && only == COMMANDS) || !is_end(line))
         return;
-    for (size_t i = word == NULL ? 0 : only; i <= (word == NULL ? COMMANDS - 1 : only); i++)
-        printf("  %-8s %-15s %s\n", commands[i].name, commands[i].words, commands[i].what);
-    if (word == NULL)
-        printf("  A word that begins with # begins a comment. A file's name is the rest of its line.\n");
+    for (size_t i = 0; i < COMMANDS; i++)
+        if (only == COMMANDS || only == i)
+            printf("%-8s%-15s%s\n", commands[i].name, commands[i].words, commands[i].what);
+    if (word != NULL)
+        printf("%23s%s\n", "", commands[only].more);
 }
 
 /* Cuts the line where a word begins with #. */

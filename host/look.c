@@ -30,9 +30,9 @@ static void print_shared_words(FILE *to, const sight *at) {
     print_words(to, &at->record[SERIFDOVE_I(1)], SERIFDOVE_INPUT_WORD_COUNT, input_name, "all 0");
     fprintf(to, " (as latched)\nM        ");
     print_words(to, &at->record[SERIFDOVE_M(1)], FLAGS, flag_name, "all 0");
-    fprintf(to, " (as published)\nAM       ");
+    fprintf(to, " (change at publish)\nAM       ");
     print_words(to, &at->record[SERIFDOVE_AM(1)], FLAGS, analog_flag_name, "all 0");
-    fprintf(to, " (as published)\noutputs  ");
+    fprintf(to, " (change at publish)\noutputs  ");
     print_words(to, at->outputs, SERIFDOVE_OUTPUT_WORD_COUNT, output_name, "all 0");
     fprintf(to, " (%s)\n", at->published ? "as published" : "nothing is published yet");
 }
