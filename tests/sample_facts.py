@@ -1,30 +1,25 @@
 #!/usr/bin/env python3
 """What a sample must show, samples/NAME.expect, against traces.
 
-sample_facts.py day EXPECT TRACE            the changes of the outputs, scan by scan, and what holds in every scan
-sample_facts.py walk EXPECT CIRCUIT SEED    prints the calls of a walk of scans with random inputs and times
-sample_facts.py rules EXPECT CALLS ANSWERS  what holds in every scan of a walk
-sample_facts.py sorts CIRCUIT..             that all kinds and sorts of connectors occur in these circuits
+sample_facts.py day EXPECT TRACE    the changes of the outputs, scan by scan, and what holds in every scan
+sample_facts.py sorts CIRCUIT..     that all kinds and sorts of connectors occur in these circuits
+
+What is otherwise is printed, and the status is 1.
 
 The lines of EXPECT:
     status N, scans N, refused N            the gateway's status, how many scans are published, how many calls are refused
     scan N: Q1 0 -> 1, AQ1 0 -> 420         all that changes in this scan; scans without a line change nothing
     never Q1 Q2                             in no scan are all of these on
     without I3: Q1 Q2                       in each scan that read a 0 there, all of these are off"""
-import random
 import re
 import sys
 
 sys.dont_write_bytecode = True
 from circuit_source import KINDS, RETENTIVE  # noqa: E402
 
-SCANS_OF_A_WALK = 3000
-RECORD_WORDS, BLOCK_WORDS = 164, 3
 FIRST_INPUT_WORD = 4
 INPUTS = [f"I{k}" for k in range(1, 25)]
-ANALOG_INPUTS = 8
 OUTPUTS = [f"Q{k}" for k in range(1, 21)] + [f"AQ{k}" for k in range(1, 9)]
-TIMES = [0, 1, 50, 50, 50, 299, 1000, 12000, 65535]
 
 
 class Expect:
@@ -59,11 +54,11 @@ def answer_of(line):
     return words[0], words[5:outputs_from], words[outputs_from + 1 :]
 
 
-def scans_of(calls, answers):
+def scans_of(lines):
     """For each publish that was accepted the inputs as read and the outputs, both by name; and how many calls were refused."""
     scans, refused = [], 0
-    calls = [line for line in calls if line.startswith("> ") and line.split()[1] not in ("rec", "out")]
-    answers = [line for line in answers if line.startswith("<")]
+    calls = [line for line in lines if line.startswith("> ") and line.split()[1] not in ("rec", "out")]
+    answers = [line for line in lines if line.startswith("<")]
     if len(calls) != len(answers):
         sys.exit(f"sample_facts: {len(calls)} calls and {len(answers)} answers")
     for call, line in zip(calls, answers):
@@ -96,8 +91,8 @@ def broken_rules(expect, scans):
 
 
 def day(expect, trace):
-    lines = open(trace, encoding="utf-8").read().split("\n")
-    scans, refused = scans_of(lines, lines)
+    with open(trace, encoding="utf-8") as file:
+        scans, refused = scans_of(file.readlines())
     changes = changes_of(scans)
     for number in sorted({*changes, *expect.changes}):
         expected, got = expect.changes.get(number, "nothing changes"), changes.get(number, "nothing changes")
@@ -107,36 +102,6 @@ def day(expect, trace):
         if expect.numbers[name] != got:
             yield f"{name}: expected {expect.numbers[name]}, the trace has {got}"
     yield from broken_rules(expect, scans)
-
-
-def walk(expect, circuit, seed):
-    """Inputs change now and then; those without which something is off come back soon, so that things run."""
-    chance = random.Random(seed)
-    content = open(circuit, "rb").read()
-    words = RECORD_WORDS + BLOCK_WORDS * int.from_bytes(content[4:6], "big")
-    needed = {name for name, _ in expect.without}
-    digital, analog = [int(name in needed) for name in INPUTS], [500] * ANALOG_INPUTS
-    yield f"C {content.hex()}\nR {words}{' 0' * words}\nO {len(OUTPUTS)}{' 0' * len(OUTPUTS)}\n> cold"
-    for _ in range(SCANS_OF_A_WALK):
-        for k, name in enumerate(INPUTS):
-            odds = 2 if name in needed and not digital[k] else 12 if name in needed else 5
-            digital[k] ^= chance.randrange(odds) == 0
-        analog = [min(1000, max(0, value + chance.randint(-60, 60))) for value in analog]
-        reading = " ".join(map(str, digital + analog))
-        yield f"> latch {chance.choice(TIMES)} {len(digital + analog)} {reading}\n> run {chance.randrange(9)}\n> run 400\n> publish"
-        if chance.randrange(100) == 0:
-            yield "> warm"
-
-
-def rules(expect, calls, answers):
-    scans, refused = scans_of(open(calls, encoding="utf-8"), open(answers, encoding="utf-8"))
-    if refused or len(scans) != SCANS_OF_A_WALK:
-        yield f"{len(scans)} scans, {refused} calls refused"
-    yield from broken_rules(expect, scans)
-    # a rule about what is never on shows nothing
-    for name in {name for names in expect.never if len(names) > 1 for name in names} | {name for _, off in expect.without for name in off}:
-        if not any(outputs[name] for _, outputs in scans):
-            yield f"{name} is on in no scan"
 
 
 def fields_of(content):
@@ -166,17 +131,14 @@ def sorts(*circuits):
 
 
 def main():
-    if len(sys.argv) < 3 or sys.argv[1] not in ("day", "walk", "rules", "sorts"):
+    jobs = {"day": lambda expect, trace: day(Expect(expect), trace), "sorts": sorts}
+    if len(sys.argv) < 3 or sys.argv[1] not in jobs:
         print(__doc__, file=sys.stderr)
         return 2
-    job, *words = sys.argv[1:]
-    if job == "sorts":
-        told = list(sorts(*words))
-    else:
-        told = list({"day": day, "walk": walk, "rules": rules}[job](Expect(words[0]), *words[1:]))
+    told = list(jobs[sys.argv[1]](*sys.argv[2:]))
     for line in told:
         print(line)
-    return 1 if told and job != "walk" else 0
+    return 1 if told else 0
 
 
 if __name__ == "__main__":
