@@ -10,7 +10,7 @@ TRACES = os.path.join(os.path.dirname(os.path.abspath(__file__)), "..", "docs", 
 
 # ---- a trace
 
-# a call in words, its four numbers, and what it left
+# a call in words, its four numbers, and what it left; the first one has no words: it is what is lent
 Call = namedtuple("Call", "words number place first second record outputs")
 
 
@@ -21,19 +21,21 @@ def counted(words):
 
 
 def read_trace(name):
-    """The circuit's bytes and the calls of a trace with one circuit."""
-    circuit, calls, words = None, [], None
+    """The circuit's bytes and the calls of a trace with one circuit, behind what is lent."""
+    circuit, calls, words, lent = None, [], None, {}
     with open(os.path.join(TRACES, name + ".trace"), encoding="ascii") as lines:
         for line in lines:
             head, *rest = line.split()
             if head == "C":
                 circuit = bytes.fromhex(rest[0])
+            elif head in ("R", "O"):
+                lent[head] = counted(rest)[0]
             elif head == ">":
                 words = rest
             elif head == "<":
                 record, behind = counted(rest[4:])
                 calls.append(Call(words, *map(int, rest[:4]), record, counted(behind)[0]))
-    return circuit, calls
+    return circuit, [Call([""], 0, 0, 0, 0, lent["R"], lent["O"])] + calls
 
 
 # ---- the layout of a record, as in include/serifdove.h
@@ -288,7 +290,7 @@ def draw_delay(name, folder):
 
 # ---- a scan in turns: call after call
 
-# What the picture is called, and the notes: each on a call behind the start, counted from 1.
+# What the picture is called, and the notes: each on a call, counted from 1.
 Turns = namedtuple("Turns", "title notes")
 CallNote = namedtuple("CallNote", "call text")
 
@@ -356,7 +358,7 @@ def turn_rows(circuit, states):
 def draw_turns(name, folder):
     turns = TURNS[name]
     circuit, states = read_trace(name)
-    calls = states[1:]  # the first call is the start: what it left stands at the left edge
+    calls = states[1:]  # what is lent stands at the left edge
     spans = spans_of(calls)
     edges = [LEFT] + [end for _, end in spans] + [spans[-1][1] + OTHER_WORK]
     rows = turn_rows(circuit, states)
