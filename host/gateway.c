@@ -171,16 +171,24 @@ static void open_scan(char *line) {
     printf("\n");
 }
 
+/* The word as a number of blocks, or `all`; else it is told. */
+static bool read_blocks(const char *word, uint64_t least, uint32_t *blocks) {
+    uint64_t number = UINT32_MAX;
+    if (word == NULL || (strcmp(word, "all") != 0 && !read_number(word, least, UINT32_MAX, &number))) {
+        refuse("`%s` is no number of blocks; expected is %" PRIu64 " to %" PRIu32 ", or all", word == NULL ? "" : word, least,
+               UINT32_MAX);
+        return false;
+    }
+    *blocks = (uint32_t)number;
+    return true;
+}
+
 static void run_blocks(char *line) {
     const char *word = next_word(&line);
-    uint64_t c = turn;
-    if (word != NULL && !read_number(word, 0, UINT32_MAX, &c)) {
-        refuse("`%s` is no number of blocks; expected is 0 to %" PRIu32, word, UINT32_MAX);
+    uint32_t c = turn;
+    if ((word != NULL && !read_blocks(word, 0, &c)) || !is_end(line))
         return;
-    }
-    if (!is_end(line))
-        return;
-    const serifdove_answer answer = run(&gateway, (uint32_t)c);
+    const serifdove_answer answer = run(&gateway, c);
     if (is_accepted("run", answer))
         printf("run: %zu block%s worked out, %zu to go\n", answer.first, answer.first == 1 ? "" : "s", answer.second);
 }
@@ -249,15 +257,10 @@ static void whole_scans(char *line) {
 }
 
 static void set_turn(char *line) {
-    const char *word = next_word(&line);
-    uint64_t number = UINT32_MAX;
-    if (word == NULL || (strcmp(word, "all") != 0 && !read_number(word, 1, UINT32_MAX, &number))) {
-        refuse("`%s` is no length of a turn; expected is all, or 1 to %" PRIu32 " blocks", word == NULL ? "" : word, UINT32_MAX);
+    uint32_t blocks;
+    if (!read_blocks(next_word(&line), 1, &blocks) || !is_end(line))
         return;
-    }
-    if (!is_end(line))
-        return;
-    turn = (uint32_t)number;
+    turn = blocks;
     if (turn == UINT32_MAX)
         printf("turn: all blocks\n");
     else
@@ -381,7 +384,7 @@ static const struct {
     {"latch", "[TIME]", "reads the inputs and opens a scan",
      "TIME is what passed since the last latch: 50 (ticks of 10 ms), 500ms, 2.5s, 3min. Alone: by the clock, 0 at the first.",
      open_scan},
-    {"run", "[N]", "works out the next N blocks; alone: a turn", "N is 0 to 4294967295. Outputs and flags stay as they were.",
+    {"run", "[N]", "works out the next N blocks; alone: a turn", "N is 0 to 4294967295, or all. Outputs and flags stay as they were.",
      run_blocks},
     {"publish", "", "closes the scan: outputs and flags change, all at once", "Refused while blocks are to go.", close_scan},
     {"scan", "[TIME [COUNT]]", "latch, turns and publish, COUNT times",
