@@ -108,12 +108,9 @@ done <<<"$numbers"
 $cc -std=c11 $warnings -Iinclude -fsyntax-only "$work/words.c" || wrong "$page: a table is not that of $header"
 echo "example: $page, $(blocks c) blocks of C, $(wc -l <<<"$numbers") refusals, $(grep -c _Static_assert "$work/words.c") rows of names"
 
-# every link: a file beside the page, or a heading of it
-for link in $(grep -o '](\([^)]*\))' $page | tr -d '()]' | sort -u); do
-    case $link in
-    '#'*) sed -n 's/^##* //p' $page | tr 'A-Z ' 'a-z-' | tr -d ,: | grep -q -x -- "${link#\#}" || wrong "$page has no heading for $link" ;;
-    *) [ -f "docs/$link" ] || wrong "$page: there is no docs/$link" ;;
-    esac
+# every link within the page leads to a heading
+for link in $(grep -o '](#[^)]*' $page | sed 's/^](#//' | sort -u); do
+    sed -n 's/^##* //p' $page | tr 'A-Z ' 'a-z-' | tr -d , | grep -q -x -e "$link" || wrong "$page has no heading for #$link"
 done
 
 # ---- the page against the gateway program
