@@ -50,10 +50,10 @@ for name in $names; do
     printf 'C %s\n> check\n' "$(od -An -v -tx1 "$work/$name.circuit" | tr -d ' \n')" | run $replay >"$work/verdict" || exit 1
     grep -q '^< 0 0 ' "$work/verdict" || differs "$work/verdict" "$name: the circuit is refused"
     play $name
+    python3 tests/sample_facts.py day samples/$name.expect "$work/$name.trace" >"$work/differs" || differs "$work/differs" "$name: the day shows something else"
     diff samples/$name.trace "$work/$name.trace" >"$work/differs" || differs "$work/differs" "$name: the day's trace is another than samples/$name.trace"
     answers $name "the player" $replay
     answers $name "the oracle" "$work/by_oracle"
-    python3 tests/sample_facts.py day samples/$name.expect samples/$name.trace >"$work/differs" || differs "$work/differs" "$name: the day shows something else"
     walk $name "$work/$name.circuit" 1 || differs "$work/walked" "$name: a rule is broken"
     echo "samples: $name: $(cut -d' ' -f4,5 "$work/verdict") blocks and rows, $(sed -n 's/^scans //p' samples/$name.expect) scans, $(grep -c '^<' samples/$name.trace) answers"
     cat "$work/walked"
