@@ -30,6 +30,7 @@ is Q1..Q20, M1..M64, AQ1..AQ8 or AM1..AM64.
 
 What is wrong is told as SOURCE:LINE: what is wrong; what is expected. The status is then 1 and nothing is written. Whether the circuit is
 accepted (ranges, an own or later block, something used twice) is for check to judge."""
+import contextlib
 import re
 import sys
 
@@ -229,39 +230,41 @@ def enter(words, blocks):
     blocks[words[1]] = len(blocks) + 1, KINDS[words[2]][0]
 
 
-def faults_of(lines, step):
-    """Carries out a step for each line; what is wrong, as number and words."""
-    faults = []
-    for number, line in lines:
-        try:
-            step(line)
-        except Fault as fault:
-            faults.append((number, fault))
-    return faults
+@contextlib.contextmanager
+def faults_at(number, faults):
+    """What is wrong in the line of this number is added to the faults."""
+    try:
+        yield
+    except Fault as fault:
+        faults.append((number, fault))
+
+
+def read_lines(text, blocks, faults):
+    """Number and words of each line that has some; its block is taken note of."""
+    lines = []
+    for number, line in enumerate(text.split("\n"), 1):
+        with faults_at(number, faults):
+            words = words_of(line)
+            if words:
+                enter(words, blocks)
+                lines.append((number, words))
+    return lines
 
 
 def circuit_of(text):
-    """The circuit's bytes and no faults, or nothing and the faults."""
-    lines, blocks, block_fields, row_fields = [], {}, [], []
-
-    def read(numbered_line):
-        number, line = numbered_line
-        words = words_of(line)
-        if words:
-            enter(words, blocks)
-            lines.append((number, words))
-
-    def write(words):
-        if words[0] == "row":
-            row_fields.append(row_field(words, blocks))
-        else:
-            words, text = split_label(words)
-            block_fields.append(block_field(words, blocks) + label(text))
-
-    faults = faults_of([(number, (number, line)) for number, line in enumerate(text.split("\n"), 1)], read) or faults_of(lines, write)
+    """The circuit's bytes, and what is wrong as pairs of a line's number and a fault."""
+    faults, blocks, block_fields, row_fields = [], {}, [], []
+    lines = read_lines(text, blocks, faults)
     if faults:
         return b"", faults
-    return header(len(blocks)) + b"".join(block_fields) + b"".join(row_fields) + end, []
+    for number, words in lines:
+        with faults_at(number, faults):
+            if words[0] == "row":
+                row_fields.append(row_field(words, blocks))
+            else:
+                words, label_text = split_label(words)
+                block_fields.append(block_field(words, blocks) + label(label_text))
+    return header(len(blocks)) + b"".join(block_fields) + b"".join(row_fields) + end, faults
 
 
 def main():

@@ -157,7 +157,8 @@ def sorts(*circuits):
             yield f"{circuit}: blocks that matter to no output: {unused}"
     # unused, I, lo, hi, M, digital block, AI, AM, analog block; I, M and digital block inverted
     wanted = {0, 1, 2, 3, 4, 6, 7, 8, 9, 0x81, 0x84, 0x86}
-    for what, missing in (("kinds", {*INPUTS_OF} - kinds), ("classes of connectors", wanted - classes), ("options", {0, RETENTIVE} - options)):
+    all_missing = {"kinds": {*INPUTS_OF} - kinds, "classes of connectors": wanted - classes, "options": {0, RETENTIVE} - options}
+    for what, missing in all_missing.items():
         if missing:
             yield f"{what} that no sample has: {sorted(missing)}"
 

@@ -189,6 +189,6 @@ int main(int words, char **word) {
     const bool well = walk(&with, scans) && shows_something();
     free(circuit_bytes);
     if (well)
-        printf("sample_walks: %u rules hold in %" PRIu64 " scans\n", rule_count, scans);
+        printf("%u rules hold in %" PRIu64 " scans\n", rule_count, scans);
     return well ? 0 : 1;
 }

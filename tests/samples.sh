@@ -12,9 +12,9 @@ build_gateway
 build_replay
 build_by_oracle "$work/by_oracle" $replay_sources
 build_c "$work/walks" tests/sample_walks.c tests/circuits.c host/files.c
-names="harbour airfreight coldstore sorter returns"
+names=$(cd samples && ls -- *.source | sed 's/\.source$//') && [ -n "$names" ] || exit 1
 top=$PWD
-scans=100000
+scans=50000
 
 # differs FILE MESSAGE: prints what differs, cut, and ends
 differs() {
@@ -55,15 +55,15 @@ for name in $names; do
     answers $name "the player" $replay
     answers $name "the oracle" "$work/by_oracle"
     walk $name "$work/$name.circuit" 1 || differs "$work/walked" "$name: a rule is broken"
-    echo "samples: $name: $(cut -d' ' -f4,5 "$work/verdict") blocks and rows, $(sed -n 's/^scans //p' samples/$name.expect) scans, $(grep -c '^<' samples/$name.trace) answers"
-    cat "$work/walked"
+    read -r _ _ _ blocks rows _ <"$work/verdict"
+    echo "samples: $name: $blocks blocks, $rows rows, $(grep -c '^<' samples/$name.trace) answers; $(cat "$work/walked")"
 done
 python3 tests/sample_facts.py sorts "$work"/*.circuit >"$work/differs" || differs "$work/differs" "something is in no sample"
 
 # told JOB WORD..: the facts are found to be wrong
 told() {
-    python3 tests/sample_facts.py "$@" >"$work/differs" 2>&1
-    [ $? -eq 1 ] && [ -s "$work/differs" ] || { echo "samples: not told: $*" && exit 1; }
+    python3 tests/sample_facts.py "$@" >"$work/differs" 2>"$work/errors"
+    [ $? -eq 1 ] && [ -s "$work/differs" ] && [ ! -s "$work/errors" ] || differs "$work/errors" "not told: $*"
 }
 
 # a fact that is wrong, missing or too much; an output word that is another; a refusal too many; no sample with a kind; an unused block
@@ -175,11 +175,14 @@ refuses 'row Q1 second' "'second' $connector"
 # two lines with a fault are told both; bytes that are no text, a source that is not there, a circuit that cannot be written, and the usage
 printf 'block a AND I25\nblock b AND I1\nrow Q0 a\n' >"$work/bad.source"
 python3 tests/circuit_source.py "$work/bad.source" "$work/bad.circuit" 2>"$work/errors"
-[ $? -eq 1 ] && [ ! -e "$work/bad.circuit" ] && [ "$(cut -d: -f2 "$work/errors" | tr '\n' ' ')" = '1 3 ' ] || differs "$work/errors" "expected are faults in lines 1 and 3"
+[ $? -eq 1 ] && [ ! -e "$work/bad.circuit" ] && [ "$(cut -d: -f2 "$work/errors" | tr '\n' ' ')" = '1 3 ' ] ||
+    differs "$work/errors" "expected are faults in lines 1 and 3"
 printf '\377\n' >"$work/bytes.source"
-for words in "$work/bytes.source $work/bad.circuit" "$work/none.source $work/bad.circuit" "samples/harbour.source $work/none/harbour.circuit" "samples/harbour.source /dev/full"; do
+for words in "$work/bytes.source $work/bad.circuit" "$work/none.source $work/bad.circuit" \
+    "samples/harbour.source $work/none/harbour.circuit" "samples/harbour.source /dev/full"; do
     python3 tests/circuit_source.py $words >"$work/line" 2>"$work/errors"
-    [ $? -eq 1 ] && [ ! -s "$work/line" ] && grep -q '^circuit_source: .*; expected ' "$work/errors" && [ ! -e "$work/bad.circuit" ] || differs "$work/errors" "no error for $words"
+    [ $? -eq 1 ] && [ ! -s "$work/line" ] && grep -q '^circuit_source: .*; expected ' "$work/errors" && [ ! -e "$work/bad.circuit" ] ||
+        differs "$work/errors" "no error for $words"
 done
 python3 tests/circuit_source.py samples/harbour.source 2>"$work/errors"
 [ $? -eq 2 ] && grep -q '^usage: ' "$work/errors" || differs "$work/errors" "no usage is told"
