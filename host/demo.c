@@ -35,129 +35,109 @@ enum status { FINE = 0, DIFFERS = 1, CANNOT = 2 };
 typedef struct {
     const char *name;
     int32_t value;
-} setting;
+} named_value;
 
-enum { MOST_SETTINGS = 8, ALL = SERIFDOVE_MOST_BLOCKS };
+enum { MOST_NAMED = 8, ALL = SERIFDOVE_MOST_BLOCKS };
 
 typedef struct {
     const char *story;
     int32_t e;
-    uint32_t turn;                   /* how many blocks a turn works out */
-    setting reading[MOST_SETTINGS];  /* what is read otherwise than in the scan before */
-    setting expected[MOST_SETTINGS]; /* what the publish must leave; all other outputs are 0 */
-    bool has_empty_turn;             /* its first turn works out no block */
-    bool is_hasty;                   /* a publish is tried with blocks to go */
+    uint32_t turn;                    /* how many blocks a turn works out */
+    named_value reading[MOST_NAMED];  /* what is read otherwise than in the scan before */
+    named_value expected[MOST_NAMED]; /* what the publish must leave; all other outputs are 0 */
+    bool has_empty_turn;              /* its first turn works out no block */
+    bool is_hasty;                    /* a publish is tried with blocks to go */
 } scan;
 
 static const scan visit[] = {
-    {"The box is switched on. Door 3 is shut, nobody is there; the pit stands at 42.0 %.",
-     0,
-     ALL,
-     {{"I3", 1}, {"I7", 1}, {"AI1", 420}},
-     {{"Q7", 1}, {"AQ1", 420}},
-     false,
-     false},
-    {"A truck docks at door 3.", 500, 3, {{"I4", 1}}, {{"Q7", 1}, {"AQ1", 420}}, false, false},
-    {"OPEN is pressed with the leveller still up: the door must stay shut.",
-     200,
-     1,
-     {{"I1", 1}},
-     {{"Q7", 1}, {"AQ1", 420}},
-     false,
-     false},
-    {"OPEN is let go, and the leveller comes down: nothing may move by itself.",
-     100,
-     8,
-     {{"I1", 0}, {"I5", 1}},
-     {{"Q7", 1}, {"AQ1", 420}},
-     true,
-     false},
-    {"OPEN is pressed again: now the door must go up, and the truck's lamp turn red.",
-     150,
-     2,
-     {{"I1", 1}},
-     {{"Q1", 1}, {"Q8", 1}, {"AQ1", 420}},
-     false,
-     true},
-    {"OPEN is let go; the door leaves the ground and goes on rising.",
-     100,
-     4,
-     {{"I1", 0}, {"I7", 0}},
-     {{"Q1", 1}, {"Q8", 1}, {"AQ1", 420}},
-     false,
-     false},
-    {"The door stands open: its motor must stop.", 600, ALL, {{"I6", 1}}, {{"Q8", 1}, {"AQ1", 420}}, false, false},
-    {"A pallet comes into the doorway: lane 1 must run.", 300, 5, {{"I8", 1}}, {{"Q3", 1}, {"Q8", 1}, {"AQ1", 420}}, false, false},
-    {"The pallet is through: the lane runs on for 3 s. The pit is above 60 %: the pump must start.",
-     200,
-     3,
-     {{"I8", 0}, {"AI1", 640}},
-     {{"Q3", 1}, {"Q4", 1}, {"Q8", 1}, {"AQ1", 640}},
-     false,
-     false},
-    {"CLOSE is pressed while the lane still runs: the door must stay open.",
-     150,
-     8,
-     {{"I2", 1}},
-     {{"Q3", 1}, {"Q4", 1}, {"Q8", 1}, {"AQ1", 640}},
-     false,
-     false},
-    {"CLOSE is let go. 3 s after the pallet the lane must stop.",
-     150,
-     6,
-     {{"I2", 0}},
-     {{"Q4", 1}, {"Q8", 1}, {"AQ1", 640}},
-     false,
-     false},
-    {"5 s above 60 %: the level alarm must come on. The stairs button is pressed.",
-     200,
-     7,
-     {{"I9", 1}, {"AI1", 705}},
-     {{"Q4", 1}, {"Q5", 1}, {"Q6", 1}, {"Q8", 1}, {"AQ1", 705}},
-     false,
-     false},
-    {"CLOSE is pressed, the lane stands: the door must come down. The stairs button is let go.",
-     100,
-     2,
-     {{"I2", 1}, {"I9", 0}},
-     {{"Q2", 1}, {"Q4", 1}, {"Q5", 1}, {"Q6", 1}, {"Q8", 1}, {"AQ1", 705}},
-     false,
-     false},
-    {"On its way down the emergency stop is pressed: the door must stop where it is.",
-     100,
-     4,
-     {{"I2", 0}, {"I3", 0}, {"I6", 0}},
-     {{"Q4", 1}, {"Q5", 1}, {"Q6", 1}, {"Q8", 1}, {"AQ1", 705}},
-     false,
-     false},
-    {"The emergency stop is pulled out again: nothing may move by itself.",
-     1000,
-     3,
-     {{"I3", 1}},
-     {{"Q4", 1}, {"Q5", 1}, {"Q6", 1}, {"Q8", 1}, {"AQ1", 705}},
-     false,
-     false},
-    {"CLOSE once more: the door must come down. The pit is below 50 %: pump and alarm must stop.",
-     100,
-     5,
-     {{"I2", 1}, {"AI1", 480}},
-     {{"Q2", 1}, {"Q6", 1}, {"Q8", 1}, {"AQ1", 480}},
-     false,
-     false},
-    {"The door is shut: its motor must stop, and the truck gets its green lamp.",
-     700,
-     6,
-     {{"I2", 0}, {"I7", 1}},
-     {{"Q6", 1}, {"Q7", 1}, {"AQ1", 480}},
-     false,
-     false},
-    {"The truck has left. Two minutes after its button the light on the stairs must go off.",
-     10100,
-     ALL,
-     {{"I4", 0}, {"I5", 0}},
-     {{"Q7", 1}, {"AQ1", 480}},
-     false,
-     false},
+    {.story = "The box is switched on. Door 3 is shut, nobody is there; the pit stands at 42.0 %.",
+     .e = 0,
+     .turn = ALL,
+     .reading = {{"I3", 1}, {"I7", 1}, {"AI1", 420}},
+     .expected = {{"Q7", 1}, {"AQ1", 420}}},
+    {.story = "A truck docks at door 3.", .e = 500, .turn = 3, .reading = {{"I4", 1}}, .expected = {{"Q7", 1}, {"AQ1", 420}}},
+    {.story = "OPEN is pressed with the leveller still up: the door must stay shut.",
+     .e = 200,
+     .turn = 1,
+     .reading = {{"I1", 1}},
+     .expected = {{"Q7", 1}, {"AQ1", 420}}},
+    {.story = "OPEN is let go, and the leveller comes down: nothing may move by itself.",
+     .e = 100,
+     .turn = 8,
+     .reading = {{"I1", 0}, {"I5", 1}},
+     .expected = {{"Q7", 1}, {"AQ1", 420}},
+     .has_empty_turn = true},
+    {.story = "OPEN is pressed again: now the door must go up, and the truck's lamp turn red.",
+     .e = 150,
+     .turn = 2,
+     .reading = {{"I1", 1}},
+     .expected = {{"Q1", 1}, {"Q8", 1}, {"AQ1", 420}},
+     .is_hasty = true},
+    {.story = "OPEN is let go; the door leaves the ground and goes on rising.",
+     .e = 100,
+     .turn = 4,
+     .reading = {{"I1", 0}, {"I7", 0}},
+     .expected = {{"Q1", 1}, {"Q8", 1}, {"AQ1", 420}}},
+    {.story = "The door stands open: its motor must stop.",
+     .e = 600,
+     .turn = ALL,
+     .reading = {{"I6", 1}},
+     .expected = {{"Q8", 1}, {"AQ1", 420}}},
+    {.story = "A pallet comes into the doorway: lane 1 must run.",
+     .e = 300,
+     .turn = 5,
+     .reading = {{"I8", 1}},
+     .expected = {{"Q3", 1}, {"Q8", 1}, {"AQ1", 420}}},
+    {.story = "The pallet is through: the lane runs on, 3 s. The pit is above 60 %: the pump must run.",
+     .e = 200,
+     .turn = 3,
+     .reading = {{"I8", 0}, {"AI1", 640}},
+     .expected = {{"Q3", 1}, {"Q4", 1}, {"Q8", 1}, {"AQ1", 640}}},
+    {.story = "CLOSE is pressed while the lane still runs: the door must stay open.",
+     .e = 150,
+     .turn = 8,
+     .reading = {{"I2", 1}},
+     .expected = {{"Q3", 1}, {"Q4", 1}, {"Q8", 1}, {"AQ1", 640}}},
+    {.story = "CLOSE is let go. 3 s after the pallet the lane must stop.",
+     .e = 150,
+     .turn = 6,
+     .reading = {{"I2", 0}},
+     .expected = {{"Q4", 1}, {"Q8", 1}, {"AQ1", 640}}},
+    {.story = "5 s above 60 %: the level alarm must come on. The stairs button is pressed.",
+     .e = 200,
+     .turn = 7,
+     .reading = {{"I9", 1}, {"AI1", 705}},
+     .expected = {{"Q4", 1}, {"Q5", 1}, {"Q6", 1}, {"Q8", 1}, {"AQ1", 705}}},
+    {.story = "CLOSE is pressed, the lane stands: the door must come down. The stairs button is let go.",
+     .e = 100,
+     .turn = 2,
+     .reading = {{"I2", 1}, {"I9", 0}},
+     .expected = {{"Q2", 1}, {"Q4", 1}, {"Q5", 1}, {"Q6", 1}, {"Q8", 1}, {"AQ1", 705}}},
+    {.story = "On its way down the emergency stop is pressed: the door must stop where it is.",
+     .e = 100,
+     .turn = 4,
+     .reading = {{"I2", 0}, {"I3", 0}, {"I6", 0}},
+     .expected = {{"Q4", 1}, {"Q5", 1}, {"Q6", 1}, {"Q8", 1}, {"AQ1", 705}}},
+    {.story = "The emergency stop is pulled out again: nothing may move by itself.",
+     .e = 1000,
+     .turn = 3,
+     .reading = {{"I3", 1}},
+     .expected = {{"Q4", 1}, {"Q5", 1}, {"Q6", 1}, {"Q8", 1}, {"AQ1", 705}}},
+    {.story = "CLOSE again: the door must come down. The pit is below 50 %: pump and alarm must stop.",
+     .e = 100,
+     .turn = 5,
+     .reading = {{"I2", 1}, {"AI1", 480}},
+     .expected = {{"Q2", 1}, {"Q6", 1}, {"Q8", 1}, {"AQ1", 480}}},
+    {.story = "The door is shut: its motor must stop, and the truck gets its green lamp.",
+     .e = 700,
+     .turn = 6,
+     .reading = {{"I2", 0}, {"I7", 1}},
+     .expected = {{"Q6", 1}, {"Q7", 1}, {"AQ1", 480}}},
+    {.story = "The truck has left. Two minutes after its button the light on the stairs must go off.",
+     .e = 10100,
+     .turn = ALL,
+     .reading = {{"I4", 0}, {"I5", 0}},
+     .expected = {{"Q7", 1}, {"AQ1", 480}}},
 };
 
 enum { SCANS = sizeof visit / sizeof *visit };
@@ -242,6 +222,7 @@ static void end_line(void) {
     column = 0;
 }
 
+/* On this line, or on the next where this column is passed. */
 static void move_to(int wanted) {
     if (column > wanted)
         end_line();
@@ -259,7 +240,7 @@ static void put_item(style s, const char *text) {
     if (!is_first)
         put(PLAIN, ",");
     if (column + 1 + (int)strlen(text) >= WIDTH)
-        end_line(), move_to(INDENT);
+        move_to(INDENT);
     else if (!is_first)
         put(PLAIN, " ");
     put(s, text);
@@ -364,8 +345,10 @@ static void tell_turn(unsigned done, unsigned count, const int32_t *before, cons
         move_to(INDENT + BLOCKS_WIDTH);
         put(CHANGED, t.text);
     }
-    if (column <= INDENT + BLOCKS_WIDTH)
-        move_to(INDENT + BLOCKS_WIDTH), put(FAINT, "no change");
+    if (column > INDENT + BLOCKS_WIDTH)
+        return;
+    move_to(INDENT + BLOCKS_WIDTH);
+    put(FAINT, "no change");
 }
 
 /* ---- the printer: other work of the box */
@@ -388,8 +371,6 @@ static size_t print_label(unsigned job) {
 static void do_printer_job(void) {
     const size_t length = print_label(++jobs);
     job_bytes += length;
-    if (column + 1 > PRINTER_COLUMN)
-        end_line();
     move_to(PRINTER_COLUMN);
     put(FAINT, text_of("printer: job %u, %zu bytes", jobs, length).text);
 }
@@ -463,7 +444,8 @@ static void break_turn(void) {
 
 static bool do_turn(uint32_t c, message *why) {
     const lent before = in_turns;
-    turn_number++, turns++;
+    turn_number++;
+    turns++;
     const serifdove_answer answer = serifdove_run(played.bytes, played.length, in_turns.record, words, c + is_met(TURN));
     break_turn();
     if (!is_accepted(answer, "run", why))
@@ -525,7 +507,7 @@ static bool do_in_one_go(const scan *s, message *why) {
 
 /* ---- the visit */
 
-/* The word of this name among so many. */
+/* The word of this name, which is one of them. */
 static size_t word_of(const char *wanted, size_t count, name (*name_of)(size_t word)) {
     size_t i = 0;
     while (i + 1 < count && strcmp(name_of(i).text, wanted) != 0)
@@ -533,7 +515,7 @@ static size_t word_of(const char *wanted, size_t count, name (*name_of)(size_t w
     return i;
 }
 
-static void put_settings(const setting *list, int32_t *to, size_t count, name (*name_of)(size_t word)) {
+static void put_values(const named_value *list, int32_t *to, size_t count, name (*name_of)(size_t word)) {
     for (; list->name != NULL; list++)
         to[word_of(list->name, count, name_of)] = list->value;
 }
@@ -541,7 +523,7 @@ static void put_settings(const setting *list, int32_t *to, size_t count, name (*
 /* What is published is what the table foretells. */
 static bool is_expected(const scan *s, message *why) {
     int32_t expected[SERIFDOVE_OUTPUT_WORD_COUNT] = {0};
-    put_settings(s->expected, expected, SERIFDOVE_OUTPUT_WORD_COUNT, output_name);
+    put_values(s->expected, expected, SERIFDOVE_OUTPUT_WORD_COUNT, output_name);
     const size_t i = first_difference(in_turns.outputs, expected, SERIFDOVE_OUTPUT_WORD_COUNT);
     return i == SERIFDOVE_OUTPUT_WORD_COUNT || fail(why, "%s %s is %" PRId32 "; worked out by hand it is %" PRId32, output_name(i).text,
                                                     meaning_of(output_name(i).text), in_turns.outputs[i], expected[i]);
@@ -562,7 +544,7 @@ static bool do_scan(const scan *s, message *why) {
     int32_t read_before[SERIFDOVE_INPUT_WORD_COUNT], before[SERIFDOVE_OUTPUT_WORD_COUNT];
     memcpy(read_before, inputs, sizeof inputs);
     memcpy(before, in_turns.outputs, sizeof before);
-    put_settings(s->reading, inputs, SERIFDOVE_INPUT_WORD_COUNT, input_name);
+    put_values(s->reading, inputs, SERIFDOVE_INPUT_WORD_COUNT, input_name);
     if (is_met(YARD))
         inputs[SERIFDOVE_INPUT_I(5)] = 0;
     turn_number = 0;
@@ -676,7 +658,8 @@ int main(int count, char **arguments) {
         fprintf(stderr, "demo: %s\n", why.text);
         return CANNOT;
     }
-    has_colour = isatty(STDOUT_FILENO) && getenv("NO_COLOR") == NULL;
+    const char *no_colour = getenv("NO_COLOR");
+    has_colour = isatty(STDOUT_FILENO) && (no_colour == NULL || *no_colour == 0);
     const enum status status = play(arguments[1], bytes, length);
     free(bytes);
     if (fflush(stdout) == 0 && !ferror(stdout))
