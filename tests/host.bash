@@ -60,7 +60,7 @@ show_progress() {
 # Makes the archive where it is missing or older than a source. SERIFDOVE_ARCHIVE names another one, taken as it is.
 need_archive() {
     if [ -z "${SERIFDOVE_ARCHIVE:-}" ] && is_stale "$archive"; then
-        command -v rt >/dev/null 2>&1 || { echo "host: the archive is to be proved, and the Rattle toolchain's command rt is not on the path" >&2 && exit 2; }
+        command -v rt >/dev/null 2>&1 || { echo "host: the Rattle toolchain is needed to prove the archive, and its command rt is not found" >&2 && exit 2; }
         echo "host: rt staticlib serifdove"
         rt staticlib serifdove 2>&1 </dev/null | tee "$work/archive" | show_progress
         [ "${PIPESTATUS[0]}" -eq 0 ] || { cat "$work/archive" && exit 1; }
