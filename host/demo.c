@@ -231,7 +231,7 @@ static void move_to(int wanted) {
 }
 
 static void put(style s, const char *text) {
-    printf("%s%s%s", colour(s), text, colour(PLAIN));
+    printf("%s%s%s", s == PLAIN ? "" : colour(s), text, s == PLAIN ? "" : colour(PLAIN));
     column += (int)strlen(text);
 }
 
@@ -530,8 +530,8 @@ static bool is_expected(const scan *s, message *why) {
 }
 
 static void tell_scan(const scan *s) {
-    const line_text when =
-        scan_number == 1 ? text_of("the first") : text_of("%s after the one before (e %" PRId32 ")", time_of(s->e).text, s->e);
+    const line_text when = scan_number == 1 ? text_of("the first (e %" PRId32 ")", s->e)
+                                            : text_of("%s after the one before (e %" PRId32 ")", time_of(s->e).text, s->e);
     const line_text how =
         s->turn >= played.n ? text_of("in one turn") : text_of("in turns of %" PRIu32 " block%s", s->turn, s->turn == 1 ? "" : "s");
     printf("\n%sScan %u%s, %s, %s\n", colour(STRONG), scan_number, colour(PLAIN), when.text, how.text);

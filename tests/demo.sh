@@ -32,7 +32,7 @@ in_scan() {
 }
 
 # The first scan: the mark's M8 blocks the motors; green by the shut door.
-in_scan 1 'Scan 1, the first, in one turn' 'read I3 emergency stop not pressed, I7 door shut, AI1 pit level 42.0 %' 'turn 1 B1-B15 B4 lane_stop (NAND) 0 -> 1' \
+in_scan 1 'Scan 1, the first (e 0), in one turn' 'read I3 emergency stop not pressed, I7 door shut, AI1 pit level 42.0 %' 'turn 1 B1-B15 B4 lane_stop (NAND) 0 -> 1' \
     'B8 blocked (OR) 0 -> 1' 'publish all at once: Q7 lamp green 0 -> 1, AQ1 level display 0.0 % -> 42.0 %'
 # The interlock: OPEN with the leveller up moves nothing, in fifteen turns of one block.
 in_scan 3 'Scan 3, 2.00 s after the one before (e 200), in turns of 1 block' 'yard OPEN is pressed with the leveller still up' 'read I1 button OPEN' \
