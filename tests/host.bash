@@ -87,7 +87,7 @@ build_c() {
 replay=target/host/replay
 replay_sources="host/replay.c host/trace.c"
 gateway=target/host/gateway
-gateway_sources="host/gateway.c host/look.c host/circuit.c host/refusals.c host/record_file.c host/files.c host/trace.c"
+gateway_sources="host/gateway.c host/box.c host/look.c host/circuit.c host/words.c host/refusals.c host/record_file.c host/files.c host/trace.c"
 build_replay() {
     mkdir -p target/host
     build_c $replay $replay_sources
