@@ -80,7 +80,7 @@ TIMES = {
 }
 
 # a quoted text, a comment, or a word, which may not hold a quote or begin a comment
-WORDS = re.compile(r'\s*(?:("[^"]*"(?=\s|$|#))|(#.*)|([^\s"#]+)|(.))', re.DOTALL)
+WORDS = re.compile(r'\s*(?:("[^"]*"(?=\s|$|#))|(#.*)|([^\s"#]+(?=\s|$|#))|(.))', re.DOTALL)
 NAME = re.compile(r"[A-Za-z][A-Za-z0-9_]*")
 NUMBERED = re.compile(r"([A-Z]+)(\d{1,3})", re.ASCII)
 
@@ -97,7 +97,7 @@ def words_of(line):
     words = []
     for quoted, comment, word, stray in WORDS.findall(line.strip()):
         if stray:
-            raise Fault(f"a quote stands where none may; expected label \"TEXT\" with blanks around it")
+            raise Fault('a quote stands where none may; expected label "TEXT", with blanks around it')
         if not comment:
             words.append(quoted or word)
     return words
@@ -188,7 +188,7 @@ def split_label(words):
     if "label" not in words[3:]:
         return words, words[1].encode()
     if len(words) < 5 or words[-2] != "label" or not words[-1].startswith('"'):
-        raise Fault("a label is not the last of its line; expected label \"TEXT\" at the end")
+        raise Fault('the label is out of place or is no text; expected label "TEXT" as the last two words')
     text = words[-1].strip('"').encode()
     if len(text) > MOST_LABEL_BYTES:
         raise Fault(f"the label has {len(text)} bytes; expected at most {MOST_LABEL_BYTES}")
@@ -197,7 +197,7 @@ def split_label(words):
 
 def row_field(words, blocks):
     if len(words) != 3:
-        raise Fault(f"a row has {len(words) - 1} words; expected row DESTINATION CONNECTOR")
+        raise Fault(f"a row has {len(words)} words; expected three, row DESTINATION CONNECTOR")
     destination = numbered(words[1], DESTINATIONS)
     if not destination:
         raise Fault(f"'{words[1]}' is no destination; expected Q, M, AQ or AM with a number")
@@ -220,7 +220,7 @@ def enter(words, blocks):
     if words[0] != "block":
         raise Fault(f"a line begins with '{words[0]}'; expected block or row")
     if len(words) < 3:
-        raise Fault(f"a block has {len(words) - 1} words; expected block NAME KIND ..")
+        raise Fault("a block lacks its name or kind; expected block NAME KIND ..")
     judge_name(words[1], blocks)
     if words[2] not in KINDS:
         raise Fault(f"'{words[2]}' is no kind; expected one of {' '.join(KINDS)}")
