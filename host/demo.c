@@ -2,8 +2,7 @@
    of another length, with printer jobs between them. Beside it the same scans are done in one go on a second record, and every word is
    compared. */
 #define _POSIX_C_SOURCE 200809L
-#include "circuit.h"
-#include "files.h"
+#include "box.h"
 #include "refusals.h"
 
 #include <inttypes.h>
@@ -179,20 +178,25 @@ enum { READING_SCAN = 7, FAULT_SCAN = 5 };
 
 static fault broken = NO_FAULT;
 
-/* ---- what is lent to the calls */
+/* ---- the two boxes, of one circuit */
 
+static box in_turns, in_one_go;
+static unsigned scan_number, turn_number, turns, jobs;
+static size_t job_bytes;
+static uint32_t job_sum;
+
+/* What is lent to the calls, copied. */
 typedef struct {
     int32_t record[SERIFDOVE_RECORD_WORDS(SERIFDOVE_MOST_BLOCKS)];
     int32_t outputs[SERIFDOVE_OUTPUT_WORD_COUNT];
 } lent;
 
-static circuit played;
-static size_t words; /* of a record */
-static lent in_turns, in_one_go;
-static int32_t inputs[SERIFDOVE_INPUT_WORD_COUNT];
-static unsigned scan_number, turn_number, turns, jobs;
-static size_t job_bytes;
-static uint32_t job_sum;
+static lent lent_to(const box *b) {
+    lent l = {0};
+    memcpy(l.record, b->record, b->record_len * sizeof *b->record);
+    memcpy(l.outputs, b->outputs, sizeof b->outputs);
+    return l;
+}
 
 static bool is_met(fault f) { return broken == f && scan_number == FAULT_SCAN; }
 
@@ -273,7 +277,7 @@ static line_text on_text(name n, bool is_analog, int32_t value) {
 }
 
 /* The inputs that are not 0; in colour those that were 0 or another value in the scan before. */
-static void tell_inputs(const int32_t *before) {
+static void tell_inputs(const int32_t *before, const int32_t *inputs) {
     begin_line("read");
     for (size_t i = 0; i < SERIFDOVE_INPUT_WORD_COUNT; i++)
         if (inputs[i] != 0)
@@ -321,7 +325,7 @@ static void tell_publish(const int32_t *before, const int32_t *after) {
 
 /* What became of block k; no text where its output is as it was, and no time of it runs. */
 static line_text block_text(unsigned k, const int32_t *before, const int32_t *after) {
-    const block *b = &played.block[k];
+    const block *b = &in_turns.circuit.block[k];
     const int32_t old = before[SERIFDOVE_BLOCK_OUTPUT(k)], value = after[SERIFDOVE_BLOCK_OUTPUT(k)];
     const int32_t ticks = after[SERIFDOVE_BLOCK_NUMBER(k)];
     const line_text head = text_of("B%u %s (%s)", k, label_of(b).text, kind_of(b->kind)->name);
@@ -389,7 +393,7 @@ static line_text record_word_text(size_t word) {
     if (word < SERIFDOVE_BLOCK_OUTPUT(1))
         return text_of("AM%zu", word - SERIFDOVE_AM(1) + 1);
     const unsigned k = (unsigned)(word - SERIFDOVE_BLOCK_OUTPUT(1)) / 3 + 1;
-    return text_of("%s of B%u %s", of_block[(word - SERIFDOVE_BLOCK_OUTPUT(1)) % 3], k, label_of(&played.block[k]).text);
+    return text_of("%s of B%u %s", of_block[(word - SERIFDOVE_BLOCK_OUTPUT(1)) % 3], k, label_of(&in_turns.circuit.block[k]).text);
 }
 
 /* Where the words first differ; `count` where they do not. */
@@ -402,8 +406,8 @@ static size_t first_difference(const int32_t *a, const int32_t *b, size_t count)
 
 /* They have the same words; else the first difference is told, each value behind where it stands. */
 static bool is_same(const lent *a, const char *where_a, const lent *b, const char *where_b, message *why) {
-    size_t i = first_difference(a->record, b->record, words);
-    if (i < words)
+    size_t i = first_difference(a->record, b->record, in_turns.record_len);
+    if (i < in_turns.record_len)
         return fail(why, "record word %s: %s %" PRId32 ", %s %" PRId32, record_word_text(i).text, where_a, a->record[i], where_b,
                     b->record[i]);
     i = first_difference(a->outputs, b->outputs, SERIFDOVE_OUTPUT_WORD_COUNT);
@@ -421,8 +425,8 @@ static bool is_accepted(serifdove_answer answer, const char *call, message *why)
 /* ---- a scan in turns */
 
 /* The turn worked out just the next c blocks, or those that were left: of all words lent only theirs and blocks done have changed. */
-static bool is_just_the_turn(uint32_t c, serifdove_answer answer, const lent *before, message *why) {
-    const uint32_t done = (uint32_t)before->record[SERIFDOVE_DONE], left = played.n - done, count = c < left ? c : left;
+static bool is_just_the_turn(uint32_t c, serifdove_answer answer, const lent *before, const lent *after, message *why) {
+    const uint32_t done = (uint32_t)before->record[SERIFDOVE_DONE], left = in_turns.circuit.n - done, count = c < left ? c : left;
     lent allowed = *before;
     if (answer.first != count || answer.second != left - count)
         return fail(why,
@@ -430,8 +434,8 @@ static bool is_just_the_turn(uint32_t c, serifdove_answer answer, const lent *be
                     turn_number, c, answer.first, answer.second, count, left - count);
     allowed.record[SERIFDOVE_DONE] = (int32_t)(done + count);
     const size_t from = SERIFDOVE_BLOCK_OUTPUT(done + 1), end = SERIFDOVE_BLOCK_OUTPUT(done + count + 1);
-    memcpy(allowed.record + from, in_turns.record + from, (end - from) * sizeof *in_turns.record);
-    return is_same(&in_turns, text_of("turn %u makes it", turn_number).text, &allowed, "it must be", why);
+    memcpy(allowed.record + from, after->record + from, (end - from) * sizeof *after->record);
+    return is_same(after, text_of("turn %u makes it", turn_number).text, &allowed, "it must be", why);
 }
 
 /* The faults of a turn that are met on purpose. */
@@ -443,33 +447,37 @@ static void break_turn(void) {
 }
 
 static bool do_turn(uint32_t c, message *why) {
-    const lent before = in_turns;
+    const lent before = lent_to(&in_turns);
     turn_number++;
     turns++;
-    const serifdove_answer answer = serifdove_run(played.bytes, played.length, in_turns.record, words, c + is_met(TURN));
+    const serifdove_answer answer = run(&in_turns, c + is_met(TURN));
     break_turn();
-    if (!is_accepted(answer, "run", why))
+    const lent after = lent_to(&in_turns);
+    if (!is_accepted(answer, "run", why) || !is_just_the_turn(c, answer, &before, &after, why))
         return false;
-    tell_turn((unsigned)before.record[SERIFDOVE_DONE], (unsigned)answer.first, before.record, in_turns.record);
+    tell_turn((unsigned)before.record[SERIFDOVE_DONE], (unsigned)answer.first, before.record, after.record);
     if (answer.second > 0)
         do_printer_job();
     end_line();
-    return is_just_the_turn(c, answer, &before, why);
+    return true;
 }
 
 /* A publish with blocks to go is refused, and changes nothing. */
-static bool try_publish(size_t to_go, message *why) {
-    const lent before = in_turns;
-    const serifdove_answer answer =
-        serifdove_publish(played.bytes, played.length, in_turns.record, words, in_turns.outputs, SERIFDOVE_OUTPUT_WORD_COUNT);
+static bool try_publish(message *why) {
+    const unsigned to_go = blocks_to_go(&in_turns);
+    const lent before = lent_to(&in_turns);
+    const serifdove_answer answer = publish(&in_turns);
     if (is_met(REFUSED))
         in_turns.record[SERIFDOVE_BLOCK_OUTPUT(1)] ^= 1;
+    const lent after = lent_to(&in_turns);
     if (answer.number != SERIFDOVE_WRONG_PHASE || answer.place != 0 || answer.first != 0 || answer.second != 0)
-        return fail(why, "publish with %zu blocks to go answers %zu; expected is %d", to_go, answer.number, SERIFDOVE_WRONG_PHASE);
+        return fail(why, "publish with %u blocks to go answers %zu; expected is %d", to_go, answer.number, SERIFDOVE_WRONG_PHASE);
+    if (!is_same(&after, "the refused publish makes it", &before, "it must stay", why))
+        return false;
     begin_line("too early");
-    put(STRONG, text_of("publish with %zu blocks to go: refused by number %zu, nothing has changed", to_go, answer.number).text);
+    put(STRONG, text_of("publish with %u blocks to go: refused by number %zu, nothing has changed", to_go, answer.number).text);
     end_line();
-    return is_same(&in_turns, "the refused publish makes it", &before, "it must stay", why);
+    return true;
 }
 
 /* The turns of a scan; the hasty one tries to publish behind the turn that works out the door's motor. */
@@ -478,31 +486,37 @@ static bool do_turns(const scan *s, message *why) {
     bool is_hasty = s->is_hasty;
     if (s->has_empty_turn && !do_turn(0, why))
         return false;
-    while ((unsigned)in_turns.record[SERIFDOVE_DONE] < played.n) {
+    while (blocks_to_go(&in_turns) > 0) {
         if (!do_turn(s->turn, why))
             return false;
-        if (is_hasty && in_turns.record[SERIFDOVE_DONE] >= DOOR_MOTOR) {
-            is_hasty = false;
-            if (!try_publish(played.n - (size_t)in_turns.record[SERIFDOVE_DONE], why))
-                return false;
-        }
+        if (!is_hasty || in_turns.record[SERIFDOVE_DONE] < DOOR_MOTOR)
+            continue;
+        is_hasty = false;
+        if (!try_publish(why))
+            return false;
     }
     return true;
 }
 
-/* ---- a scan in one go, on the second record */
+static bool do_in_turns(const scan *s, message *why) {
+    turn_number = 0;
+    return is_accepted(latch(&in_turns, s->e), "latch", why) && do_turns(s, why) && is_accepted(publish(&in_turns), "publish", why);
+}
 
+/* ---- a scan in one go */
+
+/* The second box reads what the first one read. */
 static bool do_in_one_go(const scan *s, message *why) {
-    int32_t reading[SERIFDOVE_INPUT_WORD_COUNT];
-    memcpy(reading, inputs, sizeof reading);
+    memcpy(in_one_go.inputs, in_turns.inputs, sizeof in_turns.inputs);
     if (broken == READING && scan_number == READING_SCAN)
-        reading[SERIFDOVE_INPUT_I(6)] ^= 1;
-    return is_accepted(serifdove_latch(played.bytes, played.length, in_one_go.record, words, reading, SERIFDOVE_INPUT_WORD_COUNT, s->e),
-                       "latch in one go", why) &&
-           is_accepted(serifdove_run(played.bytes, played.length, in_one_go.record, words, UINT32_MAX), "run in one go", why) &&
-           is_accepted(
-               serifdove_publish(played.bytes, played.length, in_one_go.record, words, in_one_go.outputs, SERIFDOVE_OUTPUT_WORD_COUNT),
-               "publish in one go", why);
+        in_one_go.inputs[SERIFDOVE_INPUT_I(6)] ^= 1;
+    return is_accepted(latch(&in_one_go, s->e), "latch in one go", why) &&
+           is_accepted(run(&in_one_go, UINT32_MAX), "run in one go", why) && is_accepted(publish(&in_one_go), "publish in one go", why);
+}
+
+static bool is_same_in_one_go(message *why) {
+    const lent turns_left = lent_to(&in_turns), one_go_left = lent_to(&in_one_go);
+    return is_same(&turns_left, "in turns", &one_go_left, "in one go", why);
 }
 
 /* ---- the visit */
@@ -532,8 +546,8 @@ static bool is_expected(const scan *s, message *why) {
 static void tell_scan(const scan *s) {
     const line_text when = scan_number == 1 ? text_of("the first (e %" PRId32 ")", s->e)
                                             : text_of("%s after the one before (e %" PRId32 ")", time_of(s->e).text, s->e);
-    const line_text how =
-        s->turn >= played.n ? text_of("in one turn") : text_of("in turns of %" PRIu32 " block%s", s->turn, s->turn == 1 ? "" : "s");
+    const line_text how = s->turn >= in_turns.circuit.n ? text_of("in one turn")
+                                                        : text_of("in turns of %" PRIu32 " block%s", s->turn, s->turn == 1 ? "" : "s");
     printf("\n%sScan %u%s, %s, %s\n", colour(STRONG), scan_number, colour(PLAIN), when.text, how.text);
     begin_line("yard");
     put(STRONG, s->story);
@@ -541,30 +555,22 @@ static void tell_scan(const scan *s) {
 }
 
 static bool do_scan(const scan *s, message *why) {
-    int32_t read_before[SERIFDOVE_INPUT_WORD_COUNT], before[SERIFDOVE_OUTPUT_WORD_COUNT];
-    memcpy(read_before, inputs, sizeof inputs);
-    memcpy(before, in_turns.outputs, sizeof before);
-    put_values(s->reading, inputs, SERIFDOVE_INPUT_WORD_COUNT, input_name);
+    int32_t inputs[SERIFDOVE_INPUT_WORD_COUNT], outputs[SERIFDOVE_OUTPUT_WORD_COUNT];
+    memcpy(inputs, in_turns.inputs, sizeof inputs);
+    memcpy(outputs, in_turns.outputs, sizeof outputs);
+    put_values(s->reading, in_turns.inputs, SERIFDOVE_INPUT_WORD_COUNT, input_name);
     if (is_met(YARD))
-        inputs[SERIFDOVE_INPUT_I(5)] = 0;
-    turn_number = 0;
+        in_turns.inputs[SERIFDOVE_INPUT_I(5)] = 0;
     tell_scan(s);
-    tell_inputs(read_before);
-    if (!is_accepted(serifdove_latch(played.bytes, played.length, in_turns.record, words, inputs, SERIFDOVE_INPUT_WORD_COUNT, s->e),
-                     "latch", why) ||
-        !do_turns(s, why))
+    tell_inputs(inputs, in_turns.inputs);
+    if (!do_in_turns(s, why))
         return false;
-    if (!is_accepted(
-            serifdove_publish(played.bytes, played.length, in_turns.record, words, in_turns.outputs, SERIFDOVE_OUTPUT_WORD_COUNT),
-            "publish", why))
-        return false;
-    tell_publish(before, in_turns.outputs);
-    return do_in_one_go(s, why) && is_same(&in_turns, "in turns", &in_one_go, "in one go", why) && is_expected(s, why);
+    tell_publish(outputs, in_turns.outputs);
+    return do_in_one_go(s, why) && is_same_in_one_go(why) && is_expected(s, why);
 }
 
 static bool do_visit(message *why) {
-    if (!is_accepted(serifdove_cold_start(played.bytes, played.length, in_turns.record, words), "cold start", why) ||
-        !is_accepted(serifdove_cold_start(played.bytes, played.length, in_one_go.record, words), "cold start", why))
+    if (!is_accepted(cold_start(&in_turns), "cold start", why) || !is_accepted(cold_start(&in_one_go), "cold start in one go", why))
         return false;
     for (scan_number = 1; scan_number <= SCANS; scan_number++) {
         message what;
@@ -575,8 +581,8 @@ static bool do_visit(message *why) {
 }
 
 static void tell_beginning(const char *path) {
-    printf("%sA truck at dock door 3%s, by the circuit %s: %u blocks, %u rows\n\n", colour(STRONG), colour(PLAIN), path, played.n,
-           played.rows);
+    printf("%sA truck at dock door 3%s, by the circuit %s: %u blocks, %u rows\n\n", colour(STRONG), colour(PLAIN), path,
+           in_turns.circuit.n, in_turns.circuit.rows);
     printf("The box runs the yard's circuit scan by scan. In a scan it reads all buttons and sensors once, works\n"
            "out the circuit's blocks from this one reading, and then publishes: motors and lamps change all at\n"
            "once, or not at all. The box has other work too: so it works out a few blocks in a turn, does a\n"
@@ -587,7 +593,7 @@ static void tell_beginning(const char *path) {
 }
 
 static void tell_end(void) {
-    const size_t compared = SCANS * (words + SERIFDOVE_OUTPUT_WORD_COUNT);
+    const size_t words = in_turns.record_len, compared = SCANS * (words + SERIFDOVE_OUTPUT_WORD_COUNT);
     printf("\n%sThat was the visit:%s %d scans in %u turns, and %u printer jobs between the turns\n", colour(STRONG), colour(PLAIN),
            SCANS, turns, jobs);
     printf("(%zu bytes, sum %08" PRIx32 ").\n", job_bytes, job_sum);
@@ -601,30 +607,44 @@ static void tell_end(void) {
 /* ---- the program */
 
 /* The circuit is the one that the story is of, as far as its labels tell. */
-static bool is_harbour(const char *path, message *why) {
-    if (played.n != BLOCKS)
-        return fail(why, "%s has %u blocks; the story is of samples/harbour.source, which has %d", path, played.n, BLOCKS);
+static bool is_harbour(const circuit *c, const char *path, message *why) {
+    if (c->n != BLOCKS)
+        return fail(why, "%s has %u blocks; the story is of samples/harbour.source, which has %d", path, c->n, BLOCKS);
     for (unsigned k = 1; k <= BLOCKS; k++)
-        if (strcmp(label_of(&played.block[k]).text, labels[k - 1]) != 0)
+        if (strcmp(label_of(&c->block[k]).text, labels[k - 1]) != 0)
             return fail(why, "%s: block %u is '%s'; the story is of samples/harbour.source, where it is '%s'", path, k,
-                        label_of(&played.block[k]).text, labels[k - 1]);
+                        label_of(&c->block[k]).text, labels[k - 1]);
     return true;
 }
 
-static enum status play(const char *path, const uint8_t *bytes, size_t length) {
+/* Opens a box with the circuit of this file. On false what is to be told is told. */
+static bool open_with(box *b, const char *path) {
     message why;
+    uint8_t *bytes;
+    size_t length;
+    if (!read_file(path, "a circuit", MOST_CIRCUIT_BYTES, &bytes, &length, &why)) {
+        fprintf(stderr, "demo: %s\n", why.text);
+        return false;
+    }
     const serifdove_answer answer = serifdove_check(bytes, length);
     if (answer.number != SERIFDOVE_ACCEPTED) {
         fprintf(stderr, "demo: %s is refused.\n", path);
         tell_refused_circuit(stderr, answer, bytes, length);
-        return CANNOT;
+        free(bytes);
+        return false;
     }
-    lay_out(&played, bytes, length);
-    words = SERIFDOVE_RECORD_WORDS(played.n);
-    if (!is_harbour(path, &why)) {
-        fprintf(stderr, "demo: %s\n", why.text);
+    if (!open_box(b, bytes, length))
+        fail(&why, "there is no memory for the record of %s", path);
+    else if (is_harbour(&b->circuit, path, &why))
+        return true;
+    fprintf(stderr, "demo: %s\n", why.text);
+    return false;
+}
+
+static enum status play(const char *path) {
+    message why;
+    if (!open_with(&in_turns, path) || !open_with(&in_one_go, path))
         return CANNOT;
-    }
     tell_beginning(path);
     if (!do_visit(&why)) {
         fflush(stdout);
@@ -643,9 +663,6 @@ static fault fault_of(const char *text) {
 }
 
 int main(int count, char **arguments) {
-    uint8_t *bytes;
-    size_t length;
-    message why;
     if (count == 2 && (strcmp(arguments[1], "--help") == 0 || strcmp(arguments[1], "-h") == 0))
         return fputs(usage, stdout) < 0 || fflush(stdout) != 0 ? CANNOT : FINE;
     if (count == 4 && strcmp(arguments[2], "--break") == 0)
@@ -654,14 +671,11 @@ int main(int count, char **arguments) {
         fputs(usage, stderr);
         return CANNOT;
     }
-    if (!read_file(arguments[1], "a circuit", MOST_CIRCUIT_BYTES, &bytes, &length, &why)) {
-        fprintf(stderr, "demo: %s\n", why.text);
-        return CANNOT;
-    }
     const char *no_colour = getenv("NO_COLOR");
     has_colour = isatty(STDOUT_FILENO) && (no_colour == NULL || *no_colour == 0);
-    const enum status status = play(arguments[1], bytes, length);
-    free(bytes);
+    const enum status status = play(arguments[1]);
+    close_box(&in_turns);
+    close_box(&in_one_go);
     if (fflush(stdout) == 0 && !ferror(stdout))
         return status;
     fprintf(stderr, "demo: standard output cannot be written\n");

@@ -100,7 +100,7 @@ build_gateway() {
 
 # The demo's program, and the circuit that it plays.
 demo=target/host/demo
-demo_sources="host/demo.c host/circuit.c host/files.c host/refusals.c"
+demo_sources="host/demo.c host/box.c host/circuit.c host/refusals.c host/record_file.c host/files.c host/trace.c"
 harbour=target/host/harbour.circuit
 build_demo() {
     mkdir -p target/host
