@@ -339,7 +339,7 @@ static line_text block_text(unsigned k, const int32_t *before, const int32_t *af
 /* The blocks that the turn worked out, and below each other what became of those that changed. */
 static void tell_turn(unsigned done, unsigned count, const int32_t *before, const int32_t *after) {
     begin_line(text_of("turn %u", turn_number).text);
-    put(PLAIN, count == 0   ? text_of("none").text
+    put(PLAIN, count == 0   ? text_of("no block").text
                : count == 1 ? text_of("B%u", done + 1).text
                             : text_of("B%u-B%u", done + 1, done + count).text);
     for (unsigned k = done + 1; k <= done + count; k++) {
