@@ -336,12 +336,17 @@ static line_text block_text(unsigned k, const int32_t *before, const int32_t *af
     return text_of("%s", "");
 }
 
+/* The `count` blocks behind those done. */
+static line_text blocks_text(unsigned done, unsigned count) {
+    if (count == 0)
+        return text_of("no block");
+    return count == 1 ? text_of("B%u", done + 1) : text_of("B%u-B%u", done + 1, done + count);
+}
+
 /* The blocks that the turn worked out, and below each other what became of those that changed. */
 static void tell_turn(unsigned done, unsigned count, const int32_t *before, const int32_t *after) {
     begin_line(text_of("turn %u", turn_number).text);
-    put(PLAIN, count == 0   ? text_of("no block").text
-               : count == 1 ? text_of("B%u", done + 1).text
-                            : text_of("B%u-B%u", done + 1, done + count).text);
+    put(PLAIN, blocks_text(done, count).text);
     for (unsigned k = done + 1; k <= done + count; k++) {
         const line_text t = block_text(k, before, after);
         if (t.text[0] == 0)
