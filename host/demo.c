@@ -11,19 +11,18 @@
 #include <string.h>
 #include <unistd.h>
 
-static const char usage[] =
-    "usage: demo CIRCUIT [--break FAULT]\n"
-    "Plays a truck's visit at dock door 3 on the circuit of samples/harbour.source, and tells it scan by scan.\n"
-    "--break FAULT is for the test: the program meets this fault on purpose, and must tell it.\n"
-    "  reading   in scan 7 the second record reads another I6\n"
-    "  output    in scan 5 an output word changes before the publish\n"
-    "  flag      in scan 5 a flag changes before the publish\n"
-    "  turn      in scan 5 a turn works out one block more than it was asked for\n"
-    "  refused   in scan 5 the refused publish changes the record\n"
-    "  yard      in scan 5 the leveller is not down, and the door stays shut\n"
-    "Status 0: all was as it must be, and the same scans in one go gave the same words.\n"
-    "       1: it was not; the first difference is told.\n"
-    "       2: the circuit is refused or another one, or output cannot be written.\n";
+static const char usage[] = "usage: demo CIRCUIT [--break FAULT]\n"
+                            "Plays a truck's visit at dock door 3 on the circuit of samples/harbour.source, scan by scan.\n"
+                            "--break FAULT is for the test: the program meets this fault on purpose, and must tell it.\n"
+                            "  reading   in scan 7 the second record reads another I6\n"
+                            "  output    in scan 5 an output word changes before the publish\n"
+                            "  flag      in scan 5 a flag changes before the publish\n"
+                            "  turn      in scan 5 a turn works out one block more than it was asked for\n"
+                            "  refused   in scan 5 the refused publish changes the record\n"
+                            "  yard      in scan 5 the leveller is not down, and the door stays shut\n"
+                            "Status 0: all was as it must be, and the same scans in one go gave the same words.\n"
+                            "       1: it was not; the first difference is told.\n"
+                            "       2: the circuit is refused or another one, or output cannot be written.\n";
 
 enum status { FINE = 0, DIFFERS = 1, CANNOT = 2 };
 
@@ -364,11 +363,11 @@ static void tell_turn(unsigned done, unsigned count, const int32_t *before, cons
 
 /* Puts a pallet label together and takes its sum. */
 static size_t print_label(unsigned job) {
-    enum { MODULUS = 65521, FIRST_PALLET = 7340, FIRST_ORDER = 51200 };
+    enum { MODULUS = 65521, FIRST_PALLET = 7340, FIRST_ORDER = 51200, PALLETS_AN_ORDER = 3 };
     char label[WIDTH + 1];
     uint32_t low = 1, high = 0;
-    const int length = snprintf(label, sizeof label, "HARBOUR|DOOR 3|LANE 1|JOB %04u|PALLET %06u|ORDER %u|%u CARTONS|%u kg", job,
-                                FIRST_PALLET + job, FIRST_ORDER + job / 3, 6 + job % 19, 12 * (6 + job % 19));
+    const int length = snprintf(label, sizeof label, "HARBOUR|DOOR 3|LANE 1|JOB %04u|PALLET %06u|ORDER %u|24 CARTONS|288 kg", job,
+                                FIRST_PALLET + job, FIRST_ORDER + job / PALLETS_AN_ORDER);
     for (const char *at = label; *at != 0; at++) {
         low = (low + (unsigned char)*at) % MODULUS;
         high = (high + low) % MODULUS;
@@ -380,7 +379,8 @@ static size_t print_label(unsigned job) {
 static void do_printer_job(void) {
     const size_t length = print_label(++jobs);
     job_bytes += length;
-    move_to(PRINTER_COLUMN);
+    move_to(PRINTER_COLUMN - 1);
+    put(PLAIN, " ");
     put(FAINT, text_of("printer: job %u, %zu bytes", jobs, length).text);
 }
 
