@@ -114,24 +114,27 @@ static void set_inputs(char *line) {
 
 /* ---- time */
 
-/* e for a latch, and up to when it counts. */
+/* e for a latch, up to when it counts, and the ticks that are too many for it. */
 typedef struct {
     int32_t e;
     struct timespec until;
+    int64_t surplus;
 } elapsed;
 
 static struct timespec last_latch; /* up to when the last latch counted */
 static bool has_latched;
 
-/* The ticks that the clock counted since the last latch, 0 at the first one. A rest below a tick, or above the greatest e, counts at
-   the next. */
+/* The ticks that the clock counted since the last latch, 0 at the first one. A rest below a tick counts at the next. A surplus does
+   not: a delay that begins in this scan must not count time from before it. */
 static elapsed by_the_clock(struct timespec now) {
     enum { TICK = 10000000, SECOND = 1000000000 };
     if (!has_latched)
-        return (elapsed){0, now};
+        return (elapsed){0, now, 0};
     const int64_t counted = ((int64_t)(now.tv_sec - last_latch.tv_sec) * SECOND + (now.tv_nsec - last_latch.tv_nsec)) / TICK;
-    const int64_t e = counted > GREATEST_E ? GREATEST_E : counted, nanoseconds = last_latch.tv_nsec + e * TICK;
-    return (elapsed){(int32_t)e, {last_latch.tv_sec + (time_t)(nanoseconds / SECOND), (long)(nanoseconds % SECOND)}};
+    if (counted > GREATEST_E)
+        return (elapsed){GREATEST_E, now, counted - GREATEST_E};
+    const int64_t nanoseconds = last_latch.tv_nsec + counted * TICK;
+    return (elapsed){(int32_t)counted, {last_latch.tv_sec + (time_t)(nanoseconds / SECOND), (long)(nanoseconds % SECOND)}, 0};
 }
 
 /* e by the word, or by the clock if there is none; else it is told. */
@@ -147,7 +150,7 @@ static bool read_elapsed(const char *word, elapsed *time) {
         refuse("`%s` is no time for latch; expected is 0 to %d ticks of 10 ms, such as 50, 500ms, 2.5s or 3min", word, GREATEST_E);
         return false;
     }
-    *time = (elapsed){(int32_t)ticks, now};
+    *time = (elapsed){(int32_t)ticks, now, 0};
     return true;
 }
 
@@ -158,6 +161,8 @@ static bool make_latch(const elapsed *time) {
         return false;
     last_latch = time->until;
     has_latched = true;
+    if (time->surplus > 0)
+        printf("latch: the clock counted %" PRId64 " ticks more than e can be; they are not counted\n", time->surplus);
     return true;
 }
 
