@@ -2,7 +2,7 @@
 """What a sample must show, samples/NAME.expect, against traces.
 
 sample_facts.py day EXPECT TRACE    the changes of the outputs, scan by scan, and what holds in every scan
-sample_facts.py sorts CIRCUIT..     that all kinds and sorts of connectors occur in these circuits
+sample_facts.py sorts CIRCUIT..     that all kinds and sorts of connectors occur in these circuits, and each block matters to some output
 
 What is otherwise is printed, and the status is 1.
 
@@ -15,10 +15,13 @@ import re
 import sys
 
 sys.dont_write_bytecode = True
-from circuit_source import KINDS, RETENTIVE  # noqa: E402
+from circuit_source import ANALOG_BLOCK, DIGITAL_BLOCK, INVERTED, KINDS, RETENTIVE  # noqa: E402
 
 FIRST_INPUT_WORD = 4
 INPUTS = [f"I{k}" for k in range(1, 25)]
+BLOCK, ROW = 0x10, 0x30
+INPUTS_OF = {kind: len(inputs) for kind, inputs, _ in KINDS.values()}
+FLAG_OF_DESTINATION = {2: 4, 4: 8}  # the class of a flag as a destination, and as a connector: M, AM
 OUTPUTS = [f"Q{k}" for k in range(1, 21)] + [f"AQ{k}" for k in range(1, 9)]
 
 
@@ -112,20 +115,49 @@ def fields_of(content):
         at += 3 + length
 
 
+def connectors_of(tag, content):
+    """Of a block or a row, class and number of each connector."""
+    if tag == ROW:
+        places = [2]
+    else:
+        places = range(2, 2 + 3 * INPUTS_OF[content[0]], 3)
+    return [(content[at], int.from_bytes(content[at + 1 : at + 3], "big")) for at in places]
+
+
+def unused_blocks(fields):
+    """The numbers of the blocks from which no way leads to an output, by blocks and by flags."""
+    sources, reached = {}, []
+    blocks = [connectors_of(tag, content) for tag, content in fields if tag == BLOCK]
+    for tag, content in fields:
+        if tag == ROW and content[0] in FLAG_OF_DESTINATION:
+            sources[FLAG_OF_DESTINATION[content[0]], content[1]] = connectors_of(tag, content)
+        elif tag == ROW:
+            reached += connectors_of(tag, content)
+    sources.update({(cls, number): inputs for number, inputs in enumerate(blocks, 1) for cls in (DIGITAL_BLOCK, ANALOG_BLOCK)})
+    seen = set()
+    while reached:
+        cls, number = reached.pop()
+        place = (cls & ~INVERTED, number)
+        if place not in seen:
+            seen.add(place)
+            reached += sources.get(place, [])
+    return [number for number in range(1, len(blocks) + 1) if not {(DIGITAL_BLOCK, number), (ANALOG_BLOCK, number)} & seen]
+
+
 def sorts(*circuits):
-    inputs_of = {kind: len(inputs) for kind, inputs, _ in KINDS.values()}
     kinds, classes, options = set(), set(), set()
     for circuit in circuits:
-        for tag, content in fields_of(open(circuit, "rb").read()):
-            if tag == 0x10:
-                kinds.add(content[0])
-                options.add(content[1])
-                classes |= {content[at] for at in range(2, 2 + 3 * inputs_of[content[0]], 3)}
-            elif tag == 0x30:
-                classes.add(content[2])
+        with open(circuit, "rb") as file:
+            fields = list(fields_of(file.read()))
+        classes |= {cls for tag, content in fields if tag in (BLOCK, ROW) for cls, _ in connectors_of(tag, content)}
+        kinds |= {content[0] for tag, content in fields if tag == BLOCK}
+        options |= {content[1] for tag, content in fields if tag == BLOCK}
+        unused = unused_blocks(fields)
+        if unused:
+            yield f"{circuit}: blocks that matter to no output: {unused}"
     # unused, I, lo, hi, M, digital block, AI, AM, analog block; I, M and digital block inverted
     wanted = {0, 1, 2, 3, 4, 6, 7, 8, 9, 0x81, 0x84, 0x86}
-    for what, missing in (("kinds", {*inputs_of} - kinds), ("classes of connectors", wanted - classes), ("options", {0, RETENTIVE} - options)):
+    for what, missing in (("kinds", {*INPUTS_OF} - kinds), ("classes of connectors", wanted - classes), ("options", {0, RETENTIVE} - options)):
         if missing:
             yield f"{what} that no sample has: {sorted(missing)}"
 

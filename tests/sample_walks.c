@@ -48,7 +48,7 @@ static _Noreturn void stop(const char *what) {
 /* k of a word such as Q1, with this letter; at most so many. */
 static unsigned number_of(const char *word, char letter, unsigned most) {
     char *end;
-    const unsigned long k = word[0] == letter ? strtoul(word + 1, &end, 10) : 0;
+    const unsigned long k = word != NULL && word[0] == letter ? strtoul(word + 1, &end, 10) : 0;
     if (k < 1 || k > most || (*end != 0 && *end != ':'))
         stop("a rule names something else than outputs, and I with a number behind `without`");
     return (unsigned)k;

@@ -1,7 +1,8 @@
 #!/usr/bin/env bash
 # The samples: each source makes a circuit that is accepted; the gateway plays its day to the stored trace, byte for byte; the player and
 # the independent program give every answer of that trace; it shows what samples/NAME.expect says by hand, and what is said there of every
-# scan holds in walks with random inputs. All kinds and sorts of connectors occur. What is wrong in a source is told with its line.
+# scan holds in walks with random inputs. All kinds and sorts of connectors occur, and each block matters to some output. What is wrong
+# in a source is told with its line.
 source "$(dirname "${BASH_SOURCE[0]}")/host.bash"
 need python3 python3
 need diff diffutils
@@ -13,7 +14,7 @@ build_by_oracle "$work/by_oracle" $replay_sources
 build_c "$work/walks" tests/sample_walks.c tests/circuits.c host/files.c
 names="harbour airfreight coldstore sorter returns"
 top=$PWD
-scans=200000
+scans=100000
 
 # differs FILE MESSAGE: prints what differs, cut, and ends
 differs() {
@@ -49,12 +50,12 @@ for name in $names; do
     printf 'C %s\n> check\n' "$(od -An -v -tx1 "$work/$name.circuit" | tr -d ' \n')" | run $replay >"$work/verdict" || exit 1
     grep -q '^< 0 0 ' "$work/verdict" || differs "$work/verdict" "$name: the circuit is refused"
     play $name
+    python3 tests/sample_facts.py day samples/$name.expect "$work/$name.trace" >"$work/differs" || differs "$work/differs" "$name: the day shows something else"
     diff samples/$name.trace "$work/$name.trace" >"$work/differs" || differs "$work/differs" "$name: the day's trace is another than samples/$name.trace"
     answers $name "the player" $replay
     answers $name "the oracle" "$work/by_oracle"
-    python3 tests/sample_facts.py day samples/$name.expect samples/$name.trace >"$work/differs" || differs "$work/differs" "$name: the day shows something else"
     walk $name "$work/$name.circuit" 1 || differs "$work/walked" "$name: a rule is broken"
-    echo "samples: $name: $(cut -d' ' -f4,5 "$work/verdict") blocks and rows, $(grep -c '^> publish' samples/$name.trace) publishes, $(grep -c '^<' samples/$name.trace) answers"
+    echo "samples: $name: $(cut -d' ' -f4,5 "$work/verdict") blocks and rows, $(sed -n 's/^scans //p' samples/$name.expect) scans, $(grep -c '^<' samples/$name.trace) answers"
     cat "$work/walked"
 done
 python3 tests/sample_facts.py sorts "$work"/*.circuit >"$work/differs" || differs "$work/differs" "something is in no sample"
@@ -65,13 +66,17 @@ told() {
     [ $? -eq 1 ] && [ -s "$work/differs" ] || { echo "samples: not told: $*" && exit 1; }
 }
 
-# a fact that is wrong, missing or too much; an output word that is another; a refusal too many; a sample without a kind
+# a fact that is wrong, missing or too much; an output word that is another; a refusal too many; no sample with a kind; an unused block
 sed 's/^scan 17: Q3/scan 16: Q3/' samples/harbour.expect >"$work/wrong" && told day "$work/wrong" samples/harbour.trace
 sed '/^scan 9:/d' samples/harbour.expect >"$work/wrong" && told day "$work/wrong" samples/harbour.trace
 sed '/^scan 9:/s/$/, Q9 0 -> 1/' samples/harbour.expect >"$work/wrong" && told day "$work/wrong" samples/harbour.trace
 sed '/^refused/d' samples/airfreight.expect >"$work/wrong" && told day "$work/wrong" samples/airfreight.trace
 sed '/^> publish/{n;s/ 28 0 0/ 28 1 1/}' samples/harbour.trace >"$work/wrong" && told day samples/harbour.expect "$work/wrong"
 told sorts "$work/harbour.circuit"
+printf 'block used AND I1\nblock unused AND used\nrow M1 unused\nrow Q1 used\n' >"$work/unused.source"
+python3 tests/circuit_source.py "$work/unused.source" "$work/unused.circuit" || exit 1
+told sorts "$work"/*.circuit
+grep -q 'unused.circuit: blocks that matter to no output: \[2\]$' "$work/differs" || differs "$work/differs" "an unused block is not told"
 
 # a harbour in which the open button no longer stops the motor on its way down
 sed -e 's/!clear I6 I2 M2/!clear I6 I2/' -e 's/!I3 I7 I1 blocked/!I3 I7 blocked/' samples/harbour.source >"$work/unsafe.source"
@@ -178,5 +183,5 @@ for words in "$work/bytes.source $work/bad.circuit" "$work/none.source $work/bad
 done
 python3 tests/circuit_source.py samples/harbour.source 2>"$work/errors"
 [ $? -eq 2 ] && grep -q '^usage: ' "$work/errors" || differs "$work/errors" "no usage is told"
-python3 tests/circuit_source.py --help | grep -q '^usage: ' || exit 1
+python3 tests/circuit_source.py --help | grep "^usage: " >/dev/null || exit 1
 echo "samples: $(grep -c '^refuses ' tests/samples.sh) sources with a fault"
