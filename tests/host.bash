@@ -52,11 +52,18 @@ is_stale() {
     [ ! -f "$1" ] || [ -n "$(find crates crates.txt -newer "$1" -print -quit)" ]
 }
 
+# What the proving of the archive prints, line by line. A script that shows progress has its own.
+show_progress() {
+    cat >/dev/null
+}
+
 # Makes the archive where it is missing or older than a source. SERIFDOVE_ARCHIVE names another one, taken as it is.
 need_archive() {
     if [ -z "${SERIFDOVE_ARCHIVE:-}" ] && is_stale "$archive"; then
+        command -v rt >/dev/null 2>&1 || { echo "host: the Rattle toolchain is needed to prove the archive, and its command rt is not found" >&2 && exit 2; }
         echo "host: rt staticlib serifdove"
-        rt staticlib serifdove >"$work/archive" 2>&1 </dev/null || { cat "$work/archive" && exit 1; }
+        rt staticlib serifdove 2>&1 </dev/null | tee "$work/archive" | show_progress
+        [ "${PIPESTATUS[0]}" -eq 0 ] || { cat "$work/archive" && exit 1; }
     fi
     [ -f "$archive" ] || { echo "host: there is no $archive" && exit 1; }
     echo "host: $archive, $("$cc" --version | head -n 1), emulated: $emulated"
@@ -89,6 +96,16 @@ build_replay() {
 build_gateway() {
     mkdir -p target/host
     build_c $gateway $gateway_sources
+}
+
+# The demo's program, and the circuit that it plays.
+demo=target/host/demo
+demo_sources="host/demo.c host/box.c host/circuit.c host/refusals.c host/record_file.c host/files.c host/trace.c"
+harbour=target/host/harbour.circuit
+build_demo() {
+    mkdir -p target/host
+    build_c $demo $demo_sources
+    python3 tests/circuit_source.py samples/harbour.source $harbour || exit 1
 }
 
 # build_by_oracle OUT FILE..: a program of these C files, with the oracle's calls for the archive's
