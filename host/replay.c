@@ -1,6 +1,7 @@
 /* Plays a trace: reads calls from standard input, makes each by the C interface, and prints what it answered and left. */
 #define _POSIX_C_SOURCE 200809L
 #include "serifdove.h"
+#include "trace.h"
 
 #include <inttypes.h>
 #include <stdbool.h>
@@ -136,18 +137,7 @@ static void read_circuit(void) {
 
 /* ---- calls */
 
-static void print_words(const word_list *list) {
-    printf(" %zu", list->count);
-    for (size_t i = 0; i < list->count; i++)
-        printf(" %" PRId32, list->words[i]);
-}
-
-static void print_answer(serifdove_answer a) {
-    printf("< %zu %zu %zu %zu", a.number, a.place, a.first, a.second);
-    print_words(&record);
-    print_words(&outputs);
-    printf("\n");
-}
+static void print_answer(serifdove_answer a) { trace_answer(stdout, a, record.words, record.count, outputs.words, outputs.count); }
 
 static void play_check(void) {
     read_end();
@@ -192,18 +182,9 @@ static const struct {
     const char *head;
     void (*play)(void);
 } lines[] = {
-    {"C", read_circuit},
-    {"R", read_record},
-    {"O", read_outputs},
-    {"> check", play_check},
-    {"> cold", play_cold},
-    {"> warm", play_warm},
-    {"> latch", play_latch},
-    {"> run", play_run},
-    {"> publish", play_publish},
-    {"> rec", read_record},
-    {"> out", read_outputs},
-    {".", read_end},
+    {"C", read_circuit},         {"R", read_record},     {"O", read_outputs},     {"> check", play_check},
+    {"> cold", play_cold},       {"> warm", play_warm},  {"> latch", play_latch}, {"> run", play_run},
+    {"> publish", play_publish}, {"> rec", read_record}, {"> out", read_outputs}, {".", read_end},
 };
 
 static void play_line(const char *line) {

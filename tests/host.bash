@@ -76,6 +76,30 @@ build_c() {
     $cc -std=c11 $warnings -O2 -Iinclude -Ioracle -Itests -pthread -o "$1" "${@:2}" "$archive" || exit 1
 }
 
+# The host's programs, made in target/host.
+replay=target/host/replay
+replay_sources="host/replay.c host/trace.c"
+gateway=target/host/gateway
+gateway_sources="host/gateway.c host/box.c host/look.c host/circuit.c host/words.c host/refusals.c host/record_file.c host/files.c host/trace.c"
+build_replay() {
+    mkdir -p target/host
+    build_c $replay $replay_sources
+}
+
+build_gateway() {
+    mkdir -p target/host
+    build_c $gateway $gateway_sources
+}
+
+# build_by_oracle OUT FILE..: a program of these C files, with the oracle's calls for the archive's
+build_by_oracle() {
+    local call by_the_oracle=()
+    for call in check cold_start warm_start latch run publish; do
+        by_the_oracle+=("-Dserifdove_$call=oracle_$call")
+    done
+    $cc -std=c11 $warnings -O2 -Iinclude -Ioracle "${by_the_oracle[@]}" -o "$1" "${@:2}" $oracle || exit 1
+}
+
 build_cxx() {
     $cxx -std=c++17 $warnings -O2 -Iinclude -o "$1" "${@:2}" "$archive" || exit 1
 }

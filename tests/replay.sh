@@ -6,18 +6,16 @@ need python3 python3
 need cmp diffutils
 need_c
 need_archive
-player=target/host/replay
-mkdir -p target/host
-build_c $player host/replay.c
+build_replay
 
 python3 tests/stored_traces.py | cmp - tests/data/cases.trace || { echo "replay: tests/data/cases.trace is not what tests/stored_traces.py prints" && exit 1; }
-run $player <tests/data/cases.trace >"$work/answers" || exit 1
+run $replay <tests/data/cases.trace >"$work/answers" || exit 1
 grep '^<' tests/data/cases.trace | cmp - "$work/answers" || { echo "replay: an answer of the stored trace is another" && exit 1; }
 echo "replay: the stored trace, $(wc -l <"$work/answers") answers"
 
 # says LINE: what the player prints of standard input, to the byte
 says() {
-    run $player >"$work/line" 2>"$work/errors" || { cat "$work/errors" && exit 1; }
+    run $replay >"$work/line" 2>"$work/errors" || { cat "$work/errors" && exit 1; }
     [ ! -s "$work/errors" ] && [ "$(cat "$work/line")" = "$1" ] || { echo "replay: expected '$1', got '$(cut -c1-200 "$work/line")'" && exit 1; }
 }
 
@@ -32,14 +30,14 @@ printf 'C 0100030100007F0000\nR 0\n> check\n> latch -2147483648 0\n' | says $'< 
 long=010003010190$(for ((k = 0; k < 400; k++)); do printf 10000508000100012000104142434445464748494A4B4C4D4E4F50; done)7F0000
 zeros=$(printf ' 0%.0s' {1..1364})
 printf 'C %s\nR 1364%s\n> cold\n> check\n' "$long" "$zeros" >"$work/long"
-run $player <"$work/long" | awk '{ print $1, $2, $3, $4, $5, $6, NF }' | cmp - <(printf '< 0 0 0 0 1364 1371\n< 0 0 400 0 1364 1371\n') || exit 1
+run $replay <"$work/long" | awk '{ print $1, $2, $3, $4, $5, $6, NF }' | cmp - <(printf '< 0 0 0 0 1364 1371\n< 0 0 400 0 1364 1371\n') || exit 1
 { printf 'R 300000' && printf ' -1%.0s' {1..300000} && printf '\n> warm\n'; } >"$work/long"
-run $player <"$work/long" | awk '{ print $2, $6, NF }' | cmp - <(printf '1 300000 300007\n') || exit 1
+run $replay <"$work/long" | awk '{ print $2, $6, NF }' | cmp - <(printf '1 300000 300007\n') || exit 1
 echo "replay: long lines"
 
 # refuses LINE: behind two good lines and one answer, it is told as line 4, with status 2
 refuses() {
-    printf '# one\nC -\n> check\n%b\n> check\n' "$1" | run $player >"$work/line" 2>"$work/errors"
+    printf '# one\nC -\n> check\n%b\n> check\n' "$1" | run $replay >"$work/line" 2>"$work/errors"
     [ "${PIPESTATUS[1]}" -eq 2 ] && [ "$(cat "$work/line")" = '< 1 0 0 0 0 0' ] && grep -q '^replay: line 4: ' "$work/errors" ||
         { echo "replay: not refused: '$1': $(cat "$work/line" "$work/errors")" && exit 1; }
 }
@@ -54,10 +52,10 @@ for line in "${malformed[@]}"; do
 done
 echo "replay: ${#malformed[@]} malformed lines"
 
-run $player <tests/data/cases.trace >/dev/full 2>"$work/errors"
+run $replay <tests/data/cases.trace >/dev/full 2>"$work/errors"
 [ $? -eq 2 ] && grep -q '^replay: standard output' "$work/errors" || { echo "replay: no error where nothing can be printed" && exit 1; }
-run $player --help | grep -q '^usage: ' || exit 1
+run $replay --help | grep -q '^usage: ' || exit 1
 for words in --hel "-- x" "tests/data/cases.trace"; do
-    run $player $words >"$work/line" 2>"$work/errors" </dev/null
+    run $replay $words >"$work/line" 2>"$work/errors" </dev/null
     [ $? -eq 2 ] && [ ! -s "$work/line" ] && grep -q '^usage: ' "$work/errors" || { echo "replay: no error for: $words" && exit 1; }
 done

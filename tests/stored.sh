@@ -18,12 +18,7 @@ $cc -std=c11 $warnings -O2 -Iinclude -Ioracle -o "$work/stored" tests/stored.c $
 diff crates/cases/stdout "$work/lines" || { echo "stored: the oracle prints other lines" && exit 1; }
 echo "stored: by the oracle the same $(wc -l <"$work/lines") lines"
 
-# the player of traces, with the oracle's calls for the archive's
-by_the_oracle=()
-for call in check cold_start warm_start latch run publish; do
-    by_the_oracle+=("-Dserifdove_$call=oracle_$call")
-done
-$cc -std=c11 $warnings -O2 -Iinclude -Ioracle "${by_the_oracle[@]}" -o "$work/player" host/replay.c $oracle || exit 1
+build_by_oracle "$work/player" $replay_sources
 run "$work/player" <tests/data/cases.trace | diff <(grep '^<' tests/data/cases.trace) - >"$work/differs" ||
     { cut -c1-200 "$work/differs" && echo "stored: the oracle plays the stored trace otherwise" && exit 1; }
 echo "stored: by the oracle the same answers to the stored trace"

@@ -1,0 +1,192 @@
+#include "circuit.h"
+
+#include <inttypes.h>
+#include <string.h>
+
+/* ---- the kinds */
+
+#define GATE                                                                                                                           \
+    { "1", "2", "3", "4" }
+#define SCALED(last)                                                                                                                   \
+    { "A", "B", "On", last }
+
+static const kind kinds[] = {
+    [1] = {"AND", GATE, {0}, false, true},
+    [2] = {"AND edge", GATE, {0}, true, true},
+    [3] = {"NAND", GATE, {0}, false, true},
+    [4] = {"NAND edge", GATE, {0}, true, true},
+    [5] = {"OR", GATE, {0}, false, false},
+    [6] = {"NOR", GATE, {0}, false, false},
+    [7] = {"XOR", {"1", "2"}, {0}, false, false},
+    [8] = {"NOT", {"1"}, {0}, false, false},
+    [9] = {"on-delay", {"Trg"}, {"base", "T"}, true, false},
+    [10] = {"off-delay", {"Trg", "R"}, {"base", "T"}, true, false},
+    [11] = {"latching relay", {"S", "R"}, {0}, false, false},
+    [12] = {"shift register", {"In", "Trg", "Dir"}, {"index", "bit"}, true, false},
+    [13] = {"threshold trigger", {"Ax"}, SCALED("Off"), false, false},
+    [14] = {"comparator", {"Ax", "Ay"}, SCALED("Off"), false, false},
+    [15] = {"multiplexer", {"En", "S1", "S2"}, {"V1", "V2", "V3", "V4"}, false, false},
+    [16] = {"differential trigger", {"Ax"}, SCALED("Delta"), false, false},
+};
+
+const kind *kind_of(unsigned number) {
+    return number < sizeof kinds / sizeof *kinds && kinds[number].name != NULL ? &kinds[number] : NULL;
+}
+
+bool is_delay(unsigned kind_number) { return kind_number == ON_DELAY || kind_number == OFF_DELAY; }
+
+int64_t ticks_of(const block *of) {
+    static const int64_t unit[] = {1, 100, 6000};
+    return unit[of->parameters[0]] * of->parameters[1];
+}
+
+/* ---- reading the fields of an accepted circuit */
+
+enum { HEADER = 0x01, BLOCK = 0x10, LABEL = 0x20, ROW = 0x30 };
+enum { INVERTED = 0x80, RETENTIVE = 1, CONNECTOR_BYTES = 3, PARAMETER_BYTES = 4 };
+
+static unsigned two_at(const uint8_t *at) { return (unsigned)at[0] << 8 | at[1]; }
+
+static int32_t four_at(const uint8_t *at) {
+    const uint32_t bits = (uint32_t)two_at(at) << 16 | two_at(at + 2);
+    int32_t word;
+    memcpy(&word, &bits, sizeof word);
+    return word;
+}
+
+static connector connector_at(const uint8_t *at) {
+    return (connector){.class = at[0] & ~(unsigned)INVERTED, .number = two_at(at + 1), .inverted = (at[0] & INVERTED) != 0};
+}
+
+static void lay_out_block(block *to, const uint8_t *at) {
+    *to = (block){.kind = at[0], .retentive = (at[1] & RETENTIVE) != 0};
+    const kind *k = kind_of(to->kind);
+    at += 2;
+    for (unsigned i = 0; i < MOST_OF_A_BLOCK && k->inputs[i] != NULL; i++, at += CONNECTOR_BYTES)
+        to->inputs[i] = connector_at(at);
+    for (unsigned i = 0; i < MOST_OF_A_BLOCK && k->parameters[i] != NULL; i++, at += PARAMETER_BYTES)
+        to->parameters[i] = four_at(at);
+}
+
+static void lay_out_field(circuit *to, unsigned tag, const uint8_t *content, size_t length) {
+    switch (tag) {
+    case BLOCK:
+        lay_out_block(&to->block[++to->n], content);
+        break;
+    case LABEL:
+        to->block[to->n].label = content;
+        to->block[to->n].label_length = length;
+        break;
+    case ROW:
+        to->row[to->rows++] = (row){content[0], content[1], connector_at(content + 2)};
+        break;
+    default:
+        break;
+    }
+}
+
+void lay_out(circuit *to, const uint8_t *bytes, size_t length) {
+    enum { HEAD = 3 };
+    to->bytes = bytes;
+    to->length = length;
+    to->n = to->rows = 0;
+    for (size_t at = 0; at < length; at += HEAD + two_at(bytes + at + 1))
+        lay_out_field(to, bytes[at], bytes + at + HEAD, two_at(bytes + at + 1));
+}
+
+/* ---- connectors */
+
+enum { UNUSED, INPUT, LO, HI, FLAG, DIGITAL_BLOCK = 6, ANALOG_INPUT, ANALOG_FLAG, ANALOG_BLOCK };
+
+static int32_t plain_value(connector c, bool unused, const int32_t *record) {
+    switch (c.class) {
+    case INPUT:
+        return record[SERIFDOVE_I(c.number)];
+    case HI:
+        return 1;
+    case FLAG:
+        return record[SERIFDOVE_M(c.number)];
+    case DIGITAL_BLOCK:
+    case ANALOG_BLOCK:
+        return record[SERIFDOVE_BLOCK_OUTPUT(c.number)];
+    case ANALOG_INPUT:
+        return record[SERIFDOVE_AI(c.number)];
+    case ANALOG_FLAG:
+        return record[SERIFDOVE_AM(c.number)];
+    case UNUSED:
+        return unused;
+    default:
+        return 0;
+    }
+}
+
+int32_t value_of(connector c, bool unused, const int32_t *record) {
+    const int32_t value = plain_value(c, unused, record);
+    return c.inverted ? value == 0 : value;
+}
+
+/* ---- names */
+
+static name named(const char *before, unsigned number) {
+    name n;
+    snprintf(n.text, sizeof n.text, "%s%u", before, number);
+    return n;
+}
+
+name connector_name(connector c) {
+    static const char *const before[][2] = {[INPUT] = {"I", "!I"},         [FLAG] = {"M", "!M"},         [DIGITAL_BLOCK] = {"B", "!B"},
+                                            [ANALOG_INPUT] = {"AI", "AI"}, [ANALOG_FLAG] = {"AM", "AM"}, [ANALOG_BLOCK] = {"B", "B"}};
+    static const name whole[][2] = {[UNUSED] = {{"-"}, {"-"}}, [LO] = {{"lo"}, {"!lo"}}, [HI] = {{"hi"}, {"!hi"}}};
+    if (c.class == UNUSED || c.class == LO || c.class == HI)
+        return whole[c.class][c.inverted];
+    return named(before[c.class][c.inverted], c.number);
+}
+
+name destination_name(unsigned class, unsigned number) {
+    static const char *const before[] = {"", "Q", "M", "AQ", "AM"};
+    return named(before[class], number);
+}
+
+name input_name(size_t word) {
+    return word < DIGITAL_INPUTS ? named("I", (unsigned)word + 1) : named("AI", (unsigned)(word - DIGITAL_INPUTS) + 1);
+}
+
+name output_name(size_t word) {
+    return word < DIGITAL_OUTPUTS ? named("Q", (unsigned)word + 1) : named("AQ", (unsigned)(word - DIGITAL_OUTPUTS) + 1);
+}
+
+label_text label_of(const block *of) {
+    label_text l = {0};
+    size_t at = 0;
+    for (size_t i = 0; i < of->label_length; i++)
+        if (of->label[i] < ' ' || of->label[i] > '~' || of->label[i] == '\\')
+            at += (size_t)snprintf(l.text + at, sizeof l.text - at, "\\x%02x", of->label[i]);
+        else
+            l.text[at++] = (char)of->label[i];
+    return l;
+}
+
+time_text time_of(int64_t ticks) {
+    enum { SECOND = 100, MINUTE = 60 * SECOND, HOUR = 60 * MINUTE };
+    const int64_t hours = ticks / HOUR, minutes = ticks / MINUTE % 60, seconds = ticks / SECOND % 60, rest = ticks % SECOND;
+    time_text t;
+    if (hours > 0)
+        snprintf(t.text, sizeof t.text, "%" PRId64 ":%02" PRId64 ":%02" PRId64 ".%02" PRId64 " h", hours, minutes, seconds, rest);
+    else if (minutes > 0)
+        snprintf(t.text, sizeof t.text, "%" PRId64 ":%02" PRId64 ".%02" PRId64 " min", minutes, seconds, rest);
+    else
+        snprintf(t.text, sizeof t.text, "%" PRId64 ".%02" PRId64 " s", seconds, rest);
+    return t;
+}
+
+void print_words(FILE *to, const int32_t *words, size_t count, name (*name_of)(size_t word), const char *none) {
+    const char *between = "";
+    for (size_t i = 0; i < count; i++) {
+        if (words[i] == 0)
+            continue;
+        fprintf(to, "%s%s %" PRId32, between, name_of(i).text, words[i]);
+        between = ", ";
+    }
+    if (*between == 0)
+        fputs(none, to);
+}

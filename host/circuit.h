@@ -1,0 +1,101 @@
+/* An accepted circuit laid out for people: its blocks with kind, inputs, parameters and label, its rows, and how all of them are named.
+ */
+#ifndef CIRCUIT_H
+#define CIRCUIT_H
+
+#include "files.h"
+#include "serifdove.h"
+
+#include <stdio.h>
+
+enum {
+    MOST_CIRCUIT_BYTES = 65536, /* what a host reads; no accepted circuit is longer */
+    MOST_ROWS = 20 + 64 + 8 + 64,
+    MOST_OF_A_BLOCK = 4, /* inputs, parameters */
+    ANALOG_INPUTS = 8,
+    DIGITAL_INPUTS = SERIFDOVE_INPUT_WORD_COUNT - ANALOG_INPUTS,
+    ANALOG_OUTPUTS = 8,
+    DIGITAL_OUTPUTS = SERIFDOVE_OUTPUT_WORD_COUNT - ANALOG_OUTPUTS,
+    FLAGS = 64 /* M, and as many AM */
+};
+
+/* Kinds that are shown in a way of their own. */
+enum { ON_DELAY = 9, OFF_DELAY = 10, SHIFT_REGISTER = 12, MULTIPLEXER = 15 };
+
+typedef struct {
+    unsigned class; /* without the inversion */
+    unsigned number;
+    bool inverted;
+} connector;
+
+typedef struct {
+    unsigned kind;
+    bool retentive;
+    connector inputs[MOST_OF_A_BLOCK];
+    int32_t parameters[MOST_OF_A_BLOCK];
+    const uint8_t *label; /* null: it has none */
+    size_t label_length;
+} block;
+
+typedef struct {
+    unsigned class, number; /* the destination */
+    connector source;
+} row;
+
+typedef struct {
+    const uint8_t *bytes;
+    size_t length;
+    unsigned n, rows;
+    block block[SERIFDOVE_MOST_BLOCKS + 1]; /* by number, from 1 */
+    row row[MOST_ROWS];
+} circuit;
+
+/* A kind as people name it. Inputs and parameters that it has not are null. */
+typedef struct {
+    const char *name;
+    const char *inputs[MOST_OF_A_BLOCK];
+    const char *parameters[MOST_OF_A_BLOCK];
+    bool remembers; /* it has a remembered bit */
+    bool unused;    /* what an unused input counts */
+} kind;
+
+/* The kind with this number; null if there is none. */
+const kind *kind_of(unsigned number);
+bool is_delay(unsigned kind_number);
+
+/* Lays out the circuit. serifdove_check accepts these bytes, which stay where they are as long as the layout is used. */
+void lay_out(circuit *to, const uint8_t *bytes, size_t length);
+
+/* T of a delay. */
+int64_t ticks_of(const block *of);
+
+/* What the connector brings to a block or row, by the words of the record as they are; `unused` where it is unused. */
+int32_t value_of(connector c, bool unused, const int32_t *record);
+
+/* ---- names, for printing */
+
+typedef struct {
+    char text[16];
+} name;
+
+name connector_name(connector c);                       /* I3, !M5, B7, AI2, AM4, hi, lo, - */
+name destination_name(unsigned class, unsigned number); /* Q1, M5, AQ2, AM4 */
+name input_name(size_t word);                           /* of a word that latch reads */
+name output_name(size_t word);                          /* of a word that publish writes */
+
+/* The label, its bytes that are not plain text as \xNN. */
+typedef struct {
+    char text[4 * 16 + 1];
+} label_text;
+label_text label_of(const block *of);
+
+/* So many ticks as a time: 0.50 s, 12:30.00 min, 99:59:00.00 h. */
+typedef struct {
+    char text[32];
+} time_text;
+time_text time_of(int64_t ticks);
+
+/* "I1 1, AI2 250": the words that are not 0, by their names, or `none`. */
+void print_words(FILE *to, const int32_t *words, size_t count, name (*name_of)(size_t word), const char *none);
+
+#endif

@@ -1,0 +1,170 @@
+#include "look.h"
+
+#include <inttypes.h>
+#include <string.h>
+
+/* ---- the lines above the blocks */
+
+void print_phase(FILE *to, const circuit *c, const int32_t *record) {
+    if (record[SERIFDOVE_PHASE] == 0)
+        fprintf(to, "waiting");
+    else
+        fprintf(to, "in a scan, %" PRId32 " of %u blocks done", record[SERIFDOVE_DONE], c->n);
+}
+
+static name flag_name(size_t word) { return destination_name(2, (unsigned)word + 1); }
+
+static name analog_flag_name(size_t word) { return destination_name(4, (unsigned)word + 1); }
+
+static void print_state(FILE *to, const sight *at) {
+    const int32_t e = at->record[SERIFDOVE_E];
+    fprintf(to, "phase    ");
+    print_phase(to, at->circuit, at->record);
+    if (at->record[SERIFDOVE_PHASE] != 0)
+        fprintf(to, ", e %" PRId32 " (%s)", e, time_of(e).text);
+    fprintf(to, "%s\n", at->record[SERIFDOVE_MARK] != 0 ? "; nothing published since the start" : "");
+}
+
+static void print_shared_words(FILE *to, const sight *at) {
+    fprintf(to, "inputs   ");
+    print_words(to, &at->record[SERIFDOVE_I(1)], SERIFDOVE_INPUT_WORD_COUNT, input_name, "all 0");
+    fprintf(to, " (as latched)\nM        ");
+    print_words(to, &at->record[SERIFDOVE_M(1)], FLAGS, flag_name, "all 0");
+    fprintf(to, " (change at publish)\nAM       ");
+    print_words(to, &at->record[SERIFDOVE_AM(1)], FLAGS, analog_flag_name, "all 0");
+    fprintf(to, " (change at publish)\noutputs  ");
+    print_words(to, at->outputs, SERIFDOVE_OUTPUT_WORD_COUNT, output_name, "all 0");
+    fprintf(to, " (%s)\n", at->published ? "as published" : "nothing is published yet");
+}
+
+/* ---- a block */
+
+/* A text of pieces, cut where it is too long. */
+typedef struct {
+    char text[256];
+} pieces;
+
+static void add(pieces *to, const char *between, const char *piece) {
+    const size_t used = strlen(to->text);
+    snprintf(to->text + used, sizeof to->text - used, "%s%s", used == 0 ? "" : between, piece);
+}
+
+static void add_number(pieces *to, const char *between, int32_t number) {
+    char digits[16];
+    snprintf(digits, sizeof digits, "%" PRId32, number);
+    add(to, between, digits);
+}
+
+/* "Trg I4 0, R - 0": the inputs with their values; those of a gate have no names of their own. */
+static pieces inputs_of(const block *b, const int32_t *record) {
+    const kind *k = kind_of(b->kind);
+    pieces inputs = {0};
+    for (unsigned i = 0; i < MOST_OF_A_BLOCK && k->inputs[i] != NULL; i++) {
+        const bool is_named = k->inputs[i][0] > '9';
+        add(&inputs, ", ", is_named ? k->inputs[i] : connector_name(b->inputs[i]).text);
+        if (is_named)
+            add(&inputs, " ", connector_name(b->inputs[i]).text);
+        add_number(&inputs, " ", value_of(b->inputs[i], k->unused, record));
+    }
+    return inputs;
+}
+
+static void add_bits(pieces *to, int32_t reg) {
+    enum { BITS = 8 };
+    char bits[BITS + 1] = {0};
+    for (int j = 0; j < BITS; j++)
+        bits[j] = (reg >> (BITS - 1 - j) & 1) != 0 ? '1' : '0';
+    add(to, "; bits 8 to 1: ", bits);
+}
+
+/* A gain, which is counted in hundredths. */
+static void add_gain(pieces *to, int32_t hundredths) {
+    char gain[16];
+    const int32_t size = hundredths < 0 ? -hundredths : hundredths;
+    snprintf(gain, sizeof gain, "%s%" PRId32 ".%02" PRId32, hundredths < 0 ? "-" : "", size / 100, size % 100);
+    add(to, " ", gain);
+}
+
+static void add_parameters(pieces *to, const block *b) {
+    const kind *k = kind_of(b->kind);
+    for (unsigned i = 0; i < MOST_OF_A_BLOCK && k->parameters[i] != NULL; i++) {
+        add(to, i == 0 ? "; " : ", ", k->parameters[i]);
+        if (strcmp(k->parameters[i], "A") == 0)
+            add_gain(to, b->parameters[i]);
+        else
+            add_number(to, " ", b->parameters[i]);
+    }
+}
+
+/* What it remembers, and its parameters: "remembered 1; Ta 0.50 s of 3.00 s". */
+static pieces memory_of(const block *b, const int32_t *words) {
+    pieces memory = {0};
+    if (b->retentive)
+        add(&memory, "; ", "retentive");
+    if (kind_of(b->kind)->remembers) {
+        add(&memory, "; ", "remembered");
+        add_number(&memory, " ", words[1]);
+    }
+    if (is_delay(b->kind)) {
+        add(&memory, "; Ta ", time_of(words[2]).text);
+        add(&memory, " of ", time_of(ticks_of(b)).text);
+        return memory;
+    }
+    if (b->kind == SHIFT_REGISTER)
+        add_bits(&memory, words[2]);
+    add_parameters(&memory, b);
+    return memory;
+}
+
+/* ---- the blocks */
+
+enum { KIND_WIDTH = 20, LABEL_WIDTH = 16 };
+
+static int widest_inputs(const sight *at, unsigned first, unsigned last) {
+    size_t widest = strlen("inputs");
+    for (unsigned number = first; number <= last; number++) {
+        const size_t length = strlen(inputs_of(&at->circuit->block[number], at->record).text);
+        widest = length > widest ? length : widest;
+    }
+    return (int)widest;
+}
+
+static void print_block(FILE *to, const sight *at, unsigned number, int width) {
+    const block *b = &at->circuit->block[number];
+    const int32_t *words = &at->record[SERIFDOVE_BLOCK_OUTPUT(number)];
+    const bool to_go = at->record[SERIFDOVE_PHASE] != 0 && (int32_t)number > at->record[SERIFDOVE_DONE];
+    const pieces memory = memory_of(b, words);
+    const bool dim = to_go && at->coloured;
+    fprintf(to, "%s%5u  %-*s  %-*s  %-*s  %6" PRId32 "%s%s%s\n", dim ? "\033[2m" : "", number, LABEL_WIDTH, label_of(b).text,
+            KIND_WIDTH, kind_of(b->kind)->name, width, inputs_of(b, at->record).text, words[0], *memory.text == 0 ? "" : "  ",
+            memory.text, dim ? "\033[0m" : "");
+}
+
+/* Where the scan stands: behind the blocks that are done. */
+static void print_mark(FILE *to, const sight *at) {
+    const int32_t done = at->record[SERIFDOVE_DONE], to_go = (int32_t)at->circuit->n - done;
+    fprintf(to, "%s====>  the scan stands here, behind block %" PRId32 ": ", at->coloured ? "\033[1;33m" : "", done);
+    if (to_go > 0)
+        fprintf(to, "%" PRId32 " done, %" PRId32 " to go, which show the words of the last scan", done, to_go);
+    else
+        fprintf(to, "all are done, publish closes it");
+    fprintf(to, "%s\n", at->coloured ? "\033[0m" : "");
+}
+
+void look(FILE *to, const sight *at, unsigned first, unsigned last) {
+    const int32_t *record = at->record;
+    const bool in_scan = record[SERIFDOVE_PHASE] != 0;
+    const int width = widest_inputs(at, first, last);
+    print_state(to, at);
+    print_shared_words(to, at);
+    fprintf(to, "block  %-*s  %-*s  %-*s  output\n", LABEL_WIDTH, "label", KIND_WIDTH, "kind", width, "inputs");
+    if (in_scan && (unsigned)record[SERIFDOVE_DONE] < first)
+        print_mark(to, at);
+    for (unsigned number = first; number <= last; number++) {
+        print_block(to, at, number, width);
+        if (in_scan && (unsigned)record[SERIFDOVE_DONE] == number)
+            print_mark(to, at);
+    }
+    if (in_scan && last > 0 && (unsigned)record[SERIFDOVE_DONE] > last)
+        print_mark(to, at);
+}

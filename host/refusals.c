@@ -1,0 +1,112 @@
+#include "refusals.h"
+
+#include <stdbool.h>
+
+typedef struct {
+    const char *meaning, *cure;
+} words;
+
+static const words refusals[] = {
+    [SERIFDOVE_CUT_SHORT] = {"the bytes end inside a field or before the end field", "ask the supplier for the whole file"},
+    [SERIFDOVE_TAG_OR_LENGTH] = {"the field's tag is unknown or out of place, or its content has a wrong length",
+                                 "this is no circuit, or it was damaged on its way: compare it with the supplier's"},
+    [SERIFDOVE_VERSION] = {"the version is not 1", "ask the supplier for a circuit of version 1"},
+    [SERIFDOVE_NUMBER_OF_BLOCKS] = {"the header says more than 400 blocks, or there are more or fewer blocks than it says",
+                                    "let the header's number be the number of blocks, at most 400"},
+    [SERIFDOVE_KIND_OR_OPTION] = {"the block's kind is unknown, or its option is not allowed",
+                                  "kinds are 1 to 16, and only kinds 9 to 12 may be retentive"},
+    [SERIFDOVE_CONNECTOR] = {"a connector is not allowed there",
+                             "look at its class, its number, its inversion, and whether the block that it names is digital or analog"},
+    [SERIFDOVE_OWN_OR_LATER_BLOCK] = {"the block names itself or a later block",
+                                      "let it name an earlier block, or take the value over a flag"},
+    [SERIFDOVE_PARAMETER] = {"a parameter is out of range", "compare the block's parameters with the table of kinds"},
+    [SERIFDOVE_DESTINATION] = {"the row's destination is unknown or used twice", "give each of Q, M, AQ and AM one row at most"},
+    [SERIFDOVE_INDEX_USED_TWICE] = {"the shift register's index is used twice", "give each shift register an index of its own, 1 to 4"},
+    [SERIFDOVE_SURPLUS_BYTES] = {"bytes follow the end field", "cut the file behind its end field, or ask the supplier what they are"},
+    [SERIFDOVE_RECORD_LENGTH] = {"the record has a wrong length", "lend 164 + 3n words for a circuit of n blocks"},
+    [SERIFDOVE_RECORD_NOT_SOUND] = {"the record is not sound",
+                                    "somebody else wrote it, or it is of another circuit: load a saved one, or cold"},
+    [SERIFDOVE_WRONG_PHASE] = {"the call does not fit the phase", "look tells the phase"},
+    [SERIFDOVE_INPUT_WORDS] = {"not 32 input words, or one of them or e is out of range",
+                               "I1 to I24 are 0 or 1, AI1 to AI8 are 0 to 1000, e is 0 to 65535"},
+    [SERIFDOVE_OUTPUT_WORDS] = {"not 28 output words", "lend 28 output words"},
+};
+
+static words words_of(size_t number) {
+    const words unknown = {"this number is none of the list", "tell the makers of the gateway"};
+    const bool known = number < sizeof refusals / sizeof *refusals && refusals[number].meaning != NULL;
+    return known ? refusals[number] : unknown;
+}
+
+const char *refusal_meaning(size_t number) { return words_of(number).meaning; }
+
+const char *refusal_cure(size_t number) { return words_of(number).cure; }
+
+/* ---- a refused circuit */
+
+enum { FIELD_HEAD = 3, BLOCK_TAG = 0x10 };
+
+static size_t content_length(const uint8_t *field) { return (size_t)field[1] << 8 | field[2]; }
+
+static const char *tag_name(unsigned tag) {
+    switch (tag) {
+    case 0x01:
+        return "a header";
+    case BLOCK_TAG:
+        return "a block";
+    case 0x20:
+        return "a label";
+    case 0x30:
+        return "a row";
+    case 0x7F:
+        return "an end field";
+    default:
+        return "no field that is known";
+    }
+}
+
+/* How many blocks begin before the place. The fields before it are whole. */
+static unsigned blocks_before(const uint8_t *bytes, size_t place) {
+    unsigned count = 0;
+    for (size_t at = 0; at < place; at += FIELD_HEAD + content_length(bytes + at))
+        count += bytes[at] == BLOCK_TAG;
+    return count;
+}
+
+static void tell_field(FILE *to, const uint8_t *bytes, size_t length, size_t place) {
+    if (place == length) {
+        fprintf(to, "  The bytes end here, after %zu of them.\n", length);
+        return;
+    }
+    fprintf(to, "  There begins %s (tag %02x)", tag_name(bytes[place]), bytes[place]);
+    if (bytes[place] == BLOCK_TAG)
+        fprintf(to, ", block %u", blocks_before(bytes, place) + 1);
+    if (length - place >= FIELD_HEAD)
+        fprintf(to, ", content of %zu bytes", content_length(bytes + place));
+    fprintf(to, ".\n");
+}
+
+/* One line of hexadecimal bytes, and below it a mark if the place stands in it. */
+static void print_hex_line(FILE *to, const uint8_t *bytes, size_t from, size_t end, size_t place) {
+    fprintf(to, "  %6zu ", from);
+    for (size_t i = from; i < end; i++)
+        fprintf(to, " %02x", bytes[i]);
+    fprintf(to, "\n");
+    if (from <= place && (place < end || (place == end && end % 16 != 0)))
+        fprintf(to, "         %*s^^ byte %zu\n", (int)(3 * (place - from)) + 1, "", place);
+}
+
+static void print_bytes_around(FILE *to, const uint8_t *bytes, size_t length, size_t place) {
+    enum { LINE = 16, BEFORE = 1, LINES = 4 };
+    const size_t line = place / LINE, first = (line > BEFORE ? line - BEFORE : 0) * LINE;
+    for (size_t from = first; from < length && from < first + LINES * LINE; from += LINE)
+        print_hex_line(to, bytes, from, length - from < LINE ? length : from + LINE, place);
+}
+
+void tell_refused_circuit(FILE *to, serifdove_answer answer, const uint8_t *bytes, size_t length) {
+    fprintf(to, "  Refusal %zu at byte %zu: %s.\n", answer.number, answer.place, refusal_meaning(answer.number));
+    if (answer.number != SERIFDOVE_SURPLUS_BYTES)
+        tell_field(to, bytes, length, answer.place);
+    print_bytes_around(to, bytes, length, answer.place);
+    fprintf(to, "  What to do: %s.\n", refusal_cure(answer.number));
+}
