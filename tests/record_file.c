@@ -59,9 +59,11 @@ int __wrap_fsync(int file);
 int __wrap_rename(const char *from, const char *to);
 
 static unsigned system_calls, chosen_call; /* counted from 1; 0: none is chosen */
-static bool ends_there, writes_in_bits;
+static bool ends_there, writes_in_bits, syncs_indeed;
+static char letters[64]; /* of the calls: o open, l lock, t truncate, w write, s sync of a file, f of a folder, r rename */
 
-static bool fails_now(void) {
+static bool fails_now(char letter) {
+    letters[system_calls % (sizeof letters - 1)] = letter;
     system_calls++;
     if (system_calls != chosen_call)
         return false;
@@ -76,16 +78,21 @@ int __wrap_open(const char *name, int flags, ...) {
     va_start(rest, flags);
     const mode_t mode = flags & O_CREAT ? va_arg(rest, mode_t) : 0;
     va_end(rest);
-    return fails_now() ? -1 : __real_open(name, flags, mode);
+    return fails_now('o') ? -1 : __real_open(name, flags, mode);
 }
 
-int __wrap_flock(int file, int operation) { return fails_now() ? -1 : __real_flock(file, operation); }
+int __wrap_flock(int file, int operation) { return fails_now('l') ? -1 : __real_flock(file, operation); }
 
-int __wrap_ftruncate(int file, off_t length) { return fails_now() ? -1 : __real_ftruncate(file, length); }
+int __wrap_ftruncate(int file, off_t length) { return fails_now('t') ? -1 : __real_ftruncate(file, length); }
 
-int __wrap_fsync(int file) { return fails_now() ? -1 : __real_fsync(file); }
+int __wrap_fsync(int file) {
+    struct stat about;
+    if (fails_now(fstat(file, &about) == 0 && S_ISDIR(about.st_mode) ? 'f' : 's'))
+        return -1;
+    return syncs_indeed ? __real_fsync(file) : 0;
+}
 
-int __wrap_rename(const char *from, const char *to) { return fails_now() ? -1 : __real_rename(from, to); }
+int __wrap_rename(const char *from, const char *to) { return fails_now('r') ? -1 : __real_rename(from, to); }
 
 /* Where it fails, half is written. */
 ssize_t __wrap_write(int file, const void *bytes, size_t count) {
@@ -93,7 +100,7 @@ ssize_t __wrap_write(int file, const void *bytes, size_t count) {
     static unsigned turn;
     if (system_calls + 1 == chosen_call && __real_write(file, bytes, count / 2) < 0)
         stop("write");
-    if (fails_now())
+    if (fails_now('w'))
         return -1;
     if (writes_in_bits && ++turn % 3 == 0) {
         errno = EINTR;
@@ -633,11 +640,12 @@ static void beside_file(void) {
     get_bytes(path, &kept);
     put_bytes("other", "a letter", 8);
     get_bytes("other", &other);
-    for (unsigned k = 0; k < 3; k++) {
-        if ((k == 0 ? mkdir(temporary, 0755) : k == 1 ? mkfifo(temporary, 0644) : symlink("other", temporary)) != 0)
+    for (unsigned k = 0; k < 4; k++) {
+        const char *target = k == 2 ? "other" : "nowhere";
+        if ((k == 0 ? mkdir(temporary, 0755) : k == 1 ? mkfifo(temporary, 0644) : symlink(target, temporary)) != 0)
             stop(temporary);
         must_not_save(path, "is as it was: its temporary file");
-        if (!is_there(temporary) || !has_bytes(path, &kept) || !has_bytes("other", &other))
+        if (!is_there(temporary) || is_there("nowhere") || !has_bytes(path, &kept) || !has_bytes("other", &other))
             mismatch("something beside the file is changed");
         if ((k == 0 ? rmdir(temporary) : unlink(temporary)) != 0)
             stop(temporary);
@@ -716,9 +724,18 @@ static bool killed_at(unsigned k) {
     return WIFSIGNALED(status);
 }
 
+/* FILE, folder and temporary file are opened; it is synced before the name is its own, the folder then. */
+static void calls_in_order(void) {
+    memset(letters, 0, sizeof letters);
+    system_calls = 0;
+    save_saved();
+    if (strcmp(letters, "oooltwsrf") != 0)
+        mismatch("a save makes the calls %s", letters);
+}
+
 static void each_call(void) {
     unsigned failing = 1, ending = 1;
-    save_saved();
+    calls_in_order();
     while (call_fails(failing))
         failing++;
     while (killed_at(ending))
@@ -906,8 +923,10 @@ int main(int argc, char **argv) {
     round_trips(&with);
     places(&with);
     forged(&with);
+    syncs_indeed = true;
     at_once(&with, shared);
     killed(&with, shared);
+    syncs_indeed = false;
     damaged(&with);
     return 0;
 }
