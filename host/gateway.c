@@ -114,24 +114,27 @@ static void set_inputs(char *line) {
 
 /* ---- time */
 
-/* e for a latch, and up to when it counts. */
+/* e for a latch, up to when it counts, and the ticks that are too many for it. */
 typedef struct {
     int32_t e;
     struct timespec until;
+    int64_t surplus;
 } elapsed;
 
 static struct timespec last_latch; /* up to when the last latch counted */
 static bool has_latched;
 
-/* The ticks that the clock counted since the last latch, 0 at the first one. A rest below a tick, or above the greatest e, counts at
-   the next. */
+/* The ticks that the clock counted since the last latch, 0 at the first one. A rest below a tick counts at the next. A surplus does
+   not: a delay that begins in this scan must not count time from before it. */
 static elapsed by_the_clock(struct timespec now) {
     enum { TICK = 10000000, SECOND = 1000000000 };
     if (!has_latched)
-        return (elapsed){0, now};
+        return (elapsed){0, now, 0};
     const int64_t counted = ((int64_t)(now.tv_sec - last_latch.tv_sec) * SECOND + (now.tv_nsec - last_latch.tv_nsec)) / TICK;
-    const int64_t e = counted > GREATEST_E ? GREATEST_E : counted, nanoseconds = last_latch.tv_nsec + e * TICK;
-    return (elapsed){(int32_t)e, {last_latch.tv_sec + (time_t)(nanoseconds / SECOND), (long)(nanoseconds % SECOND)}};
+    if (counted > GREATEST_E)
+        return (elapsed){GREATEST_E, now, counted - GREATEST_E};
+    const int64_t nanoseconds = last_latch.tv_nsec + counted * TICK;
+    return (elapsed){(int32_t)counted, {last_latch.tv_sec + (time_t)(nanoseconds / SECOND), (long)(nanoseconds % SECOND)}, 0};
 }
 
 /* e by the word, or by the clock if there is none; else it is told. */
@@ -147,7 +150,7 @@ static bool read_elapsed(const char *word, elapsed *time) {
         refuse("`%s` is no time for latch; expected is 0 to %d ticks of 10 ms, such as 50, 500ms, 2.5s or 3min", word, GREATEST_E);
         return false;
     }
-    *time = (elapsed){(int32_t)ticks, now};
+    *time = (elapsed){(int32_t)ticks, now, 0};
     return true;
 }
 
@@ -158,6 +161,8 @@ static bool make_latch(const elapsed *time) {
         return false;
     last_latch = time->until;
     has_latched = true;
+    if (time->surplus > 0)
+        printf("latch: the clock counted %" PRId64 " ticks more than e can be; they are not counted\n", time->surplus);
     return true;
 }
 
@@ -171,16 +176,24 @@ static void open_scan(char *line) {
     printf("\n");
 }
 
+/* The word as a number of blocks, or `all`; else it is told. */
+static bool read_blocks(const char *word, uint64_t least, uint32_t *blocks) {
+    uint64_t number = UINT32_MAX;
+    if (word == NULL || (strcmp(word, "all") != 0 && !read_number(word, least, UINT32_MAX, &number))) {
+        refuse("`%s` is no number of blocks; expected is %" PRIu64 " to %" PRIu32 ", or all", word == NULL ? "" : word, least,
+               UINT32_MAX);
+        return false;
+    }
+    *blocks = (uint32_t)number;
+    return true;
+}
+
 static void run_blocks(char *line) {
     const char *word = next_word(&line);
-    uint64_t c = turn;
-    if (word != NULL && !read_number(word, 0, UINT32_MAX, &c)) {
-        refuse("`%s` is no number of blocks; expected is 0 to %" PRIu32, word, UINT32_MAX);
+    uint32_t c = turn;
+    if ((word != NULL && !read_blocks(word, 0, &c)) || !is_end(line))
         return;
-    }
-    if (!is_end(line))
-        return;
-    const serifdove_answer answer = run(&gateway, (uint32_t)c);
+    const serifdove_answer answer = run(&gateway, c);
     if (is_accepted("run", answer))
         printf("run: %zu block%s worked out, %zu to go\n", answer.first, answer.first == 1 ? "" : "s", answer.second);
 }
@@ -249,15 +262,10 @@ static void whole_scans(char *line) {
 }
 
 static void set_turn(char *line) {
-    const char *word = next_word(&line);
-    uint64_t number = UINT32_MAX;
-    if (word == NULL || (strcmp(word, "all") != 0 && !read_number(word, 1, UINT32_MAX, &number))) {
-        refuse("`%s` is no length of a turn; expected is all, or 1 to %" PRIu32 " blocks", word == NULL ? "" : word, UINT32_MAX);
+    uint32_t blocks;
+    if (!read_blocks(next_word(&line), 1, &blocks) || !is_end(line))
         return;
-    }
-    if (!is_end(line))
-        return;
-    turn = (uint32_t)number;
+    turn = blocks;
     if (turn == UINT32_MAX)
         printf("turn: all blocks\n");
     else
@@ -381,7 +389,7 @@ static const struct {
     {"latch", "[TIME]", "reads the inputs and opens a scan",
      "TIME is what passed since the last latch: 50 (ticks of 10 ms), 500ms, 2.5s, 3min. Alone: by the clock, 0 at the first.",
      open_scan},
-    {"run", "[N]", "works out the next N blocks; alone: a turn", "N is 0 to 4294967295. Outputs and flags stay as they were.",
+    {"run", "[N]", "works out the next N blocks; alone: a turn", "N is 0 to 4294967295, or all. Outputs and flags stay as they were.",
      run_blocks},
     {"publish", "", "closes the scan: outputs and flags change, all at once", "Refused while blocks are to go.", close_scan},
     {"scan", "[TIME [COUNT]]", "latch, turns and publish, COUNT times",

@@ -1,0 +1,430 @@
+#!/usr/bin/env bash
+# The gateway program as a user meets it: every command, every sort of bad word, circuit and file, a look between two blocks, a trace that is
+# played again, in a pipe and at a terminal.
+source "$(dirname "${BASH_SOURCE[0]}")/host.bash"
+need python3 python3
+need diff diffutils
+need_c
+need_archive
+build_replay
+build_gateway
+here=$PWD
+
+# says STATUS [WORD..]: the gateway's words; commands on standard input; `expected` and `complaints` hold what it must print, to the byte
+says() {
+    local status
+    (cd "$work" && run "$here/$gateway" "${@:2}" >out 2>err)
+    status=$?
+    if [ "$status" -ne "$1" ] || ! diff "$work/expected" "$work/out" || ! diff "$work/complaints" "$work/err"; then
+        echo "gateway: status $status, expected $1, or it printed otherwise (above): ${*:2}"
+        exit 1
+    fi
+}
+
+# complains STATUS TEXT [WORD..]: nothing on standard output, and a complaint that holds this text
+complains() {
+    local status
+    (cd "$work" && run "$here/$gateway" "${@:3}" >out 2>err </dev/null)
+    status=$?
+    if [ "$status" -ne "$1" ] || [ -s "$work/out" ] || ! grep -qF -- "$2" "$work/err"; then
+        echo "gateway: status $status, expected $1 and '$2': ${*:3}: $(head -c 300 "$work/out" "$work/err")"
+        exit 1
+    fi
+}
+
+# bytes HEX FILE: a file of these bytes
+bytes() {
+    python3 -c 'import sys; open(sys.argv[2], "wb").write(bytes.fromhex(sys.argv[1]))' "$1" "$work/$2"
+}
+
+# ---- words and circuits that are refused
+printf '' >"$work/expected"
+complains 2 'usage: gateway CIRCUIT'
+complains 2 '`--help` is not expected' x --help
+complains 2 '`y` is not expected' x y
+complains 2 '`-t` is not expected' -t
+for wrong in 0 -1 4294967296 2x ''; do
+    complains 2 '--turn needs a number of blocks' x --turn "$wrong"
+done
+complains 2 '--turn needs a number of blocks' x --turn
+complains 2 '--script needs the name' x --script
+complains 2 'there_is_none cannot be opened: No such file or directory; a file with a circuit is expected' there_is_none
+complains 2 '. is not a file; a file with a circuit is expected' .
+head -c 65537 /dev/zero >"$work/long"
+complains 2 'long is too long: a circuit has at most 65536 bytes' long
+bytes '' empty
+complains 2 'the script there_is_none cannot be opened: No such file or directory' empty --script there_is_none
+
+head=010003010001 block=10000e0100010001010002000000000000 row=300005010106 end=7f0000
+good=$head$block${row}0001$end
+refused=0
+# refuses NUMBER PLACE HEX TEXT
+refuses() {
+    bytes "$3" bad
+    complains 2 "  Refusal $1 at byte $2: " bad
+    complains 2 "$4" bad
+    complains 2 "^^ byte $2" bad
+    refused=$((refused + 1))
+}
+refuses 1 31 "$head$block${row}0001" 'The bytes end here, after 31 of them.'
+refuses 1 6 "$head${block%00}" 'There begins a block (tag 10), block 1, content of 14 bytes.'
+refuses 2 0 "02${good#01}" 'There begins no field that is known (tag 02)'
+refuses 3 0 "01000302${good#01000301}" 'the version is not 1'
+refuses 4 23 "010003010002${good#$head}" 'There begins a row (tag 30), content of 5 bytes.'
+refuses 5 6 "${head}10000e11${good#${head}10000e01}" 'kinds are 1 to 16'
+refuses 6 6 "${head}10000e0100060002${good#${head}10000e0100010001}" 'a connector is not allowed there'
+refuses 7 6 "${head}10000e0100060001${good#${head}10000e0100010001}" '       0  01 00 03 01 00 01 10 00 0e 01 00 06 00 01 01 00'
+refuses 8 6 "${head}10000d09000100010000000300000000$end" 'a parameter is out of range'
+refuses 9 31 "$head$block${row}0001${row}0001$end" 'give each of Q, M, AQ and AM one row at most'
+register=1000130c000000000000000000000000000100000001
+refuses 10 28 "010003010002$register$register$end" 'give each shift register an index of its own'
+refuses 11 34 "${good}00" 'bytes follow the end field'
+complains 2 '  Refusal 1 at byte 0: ' empty
+complains 2 'The bytes end here, after 0 of them.' empty
+echo "gateway: $refused refused circuits, each with number, place, bytes and what to do"
+
+# ---- a session, worked out by hand: each command, a scan in turns, a look between two blocks
+cat >"$work/yard.source" <<'END'
+block press AND_edge          I1
+block lane  off_delay         retentive Trg=press R=!I2 T=3.00s
+block bits  shift_register    In=I1 Trg=I2 Dir=lo index=1 bit=1
+block level threshold_trigger Ax=AI1 A=-33 B=10 On=5 Off=4
+block speed multiplexer       En=hi S1=lane S2=- V1=-5 V2=0 V3=700 V4=9  label "a\b,ü"
+row Q1 lane
+row M1 level
+row AQ1 speed
+row AM1 AI1
+END
+python3 tests/circuit_source.py "$work/yard.source" "$work/yard" || exit 1
+cat >"$work/yard.script" <<'END'
+# a comment, then an empty line
+
+set I1 1 i2=1   ai1 10   # behind a command too
+latch 0
+run 3
+look
+run
+publish
+set I1 0 AI1 0
+scan 100
+scan 1s 4
+turn all
+look 2 3
+turn 1
+scan 250ms	2
+warm
+look 2
+save yard.record
+latch 2.5s
+run 0
+run all
+look 5
+cold
+load yard.record
+help quit
+quit
+run
+END
+cat >"$work/expected" <<'END'
+circuit: yard, 192 bytes, 5 blocks, 4 rows; cold start
+set: I1 1, I2 1, AI1 10
+latch: e 0 (0.00 s); I1 1, I2 1, AI1 10
+run: 3 blocks worked out, 2 to go
+phase    in a scan, 3 of 5 blocks done, e 0 (0.00 s); nothing published since the start
+inputs   I1 1, I2 1, AI1 10 (as latched)
+M        M8 1 (change at publish)
+AM       all 0 (change at publish)
+outputs  all 0 (nothing is published yet)
+block  label             kind                  inputs                       output
+    1  press             AND edge              I1 1, - 1, - 1, - 1               1  remembered 1
+    2  lane              off-delay             Trg B1 1, R !I2 0                 1  retentive; remembered 1; Ta 0.00 s of 3.00 s
+    3  bits              shift register        In I1 1, Trg I2 1, Dir lo 0       1  remembered 1; bits 8 to 1: 00000001; index 1, bit 1
+====>  the scan stands here, behind block 3: 3 done, 2 to go, which show the words of the last scan
+    4  level             threshold trigger     Ax AI1 10                         0  A -0.33, B 10, On 5, Off 4
+    5  a\x5cb,\xc3\xbc   multiplexer           En hi 1, S1 B2 1, S2 - 0          0  V1 -5, V2 0, V3 700, V4 9
+run: 2 blocks worked out, 0 to go
+publish: Q1 1, AQ1 700; changed: Q1 0 -> 1, AQ1 0 -> 700
+set: I2 1
+scan 1 of 1: e 100 (1.00 s), 3 turns; Q1 1, AQ1 700; nothing changed
+scan 3 of 4: e 100 (1.00 s), 3 turns; AQ1 -5; changed: Q1 1 -> 0, AQ1 700 -> -5
+scan 4 of 4: e 100 (1.00 s), 3 turns; AQ1 -5; nothing changed
+turn: all blocks
+phase    waiting
+inputs   I2 1 (as latched)
+M        M1 1 (change at publish)
+AM       all 0 (change at publish)
+outputs  AQ1 -5 (as published)
+block  label             kind                  inputs                       output
+    2  lane              off-delay             Trg B1 0, R !I2 0                 0  retentive; remembered 0; Ta 0.00 s of 3.00 s
+    3  bits              shift register        In I1 0, Trg I2 1, Dir lo 0       1  remembered 1; bits 8 to 1: 00000001; index 1, bit 1
+turn: 1 block
+scan 2 of 2: e 25 (0.25 s), 5 turns; AQ1 -5; nothing changed
+warm: begun anew, retentive blocks kept
+phase    waiting; nothing published since the start
+inputs   all 0 (as latched)
+M        M8 1 (change at publish)
+AM       all 0 (change at publish)
+outputs  AQ1 -5 (as published)
+block  label             kind                  inputs             output
+    2  lane              off-delay             Trg B1 0, R !I2 1       0  retentive; remembered 0; Ta 0.00 s of 3.00 s
+save: yard.record
+latch: e 250 (2.50 s); I2 1
+run: 0 blocks worked out, 5 to go
+run: 5 blocks worked out, 0 to go
+phase    in a scan, 5 of 5 blocks done, e 250 (2.50 s); nothing published since the start
+inputs   I2 1 (as latched)
+M        M8 1 (change at publish)
+AM       all 0 (change at publish)
+outputs  AQ1 -5 (as published)
+block  label             kind                  inputs                    output
+    5  a\x5cb,\xc3\xbc   multiplexer           En hi 1, S1 B2 0, S2 - 0      -5  V1 -5, V2 0, V3 700, V4 9
+====>  the scan stands here, behind block 5: all are done, publish closes it
+cold: begun anew; the scan that was open is given up, its outputs were not published
+load: yard.record, waiting
+quit                   ends; so does the end of input
+                       A trace is ended; a record that was not saved is lost.
+END
+printf '' >"$work/complaints"
+says 0 yard --turn 2 --script yard.script </dev/null
+says 0 yard --turn 2 <"$work/yard.script"
+sed 's/$/\r/' "$work/yard.script" >"$work/yard.crlf"
+says 0 yard --turn 2 --script yard.crlf </dev/null
+echo "gateway: a session of $(grep -c '^[a-z]' "$work/yard.script") commands, as worked out by hand"
+
+# ---- every bad command: told with its line, and nothing else happens
+cat >"$work/bad.script" <<'END'
+open
+set I25 1
+set I1
+set I1 2
+set AI1 1001
+set I2 1 Q1 1
+set
+latch x
+latch 655.36s
+latch 15ms
+latch 1 2
+run
+publish
+turn 0
+turn
+turn 2 x
+look 6
+look 0
+look 4 3
+look 1 2 3
+scan 1 0
+scan 1 2 3
+scan -1
+latch 65535
+latch
+warm
+load yard.record
+run 4294967296
+run -1
+run 1 1
+publish
+run all
+scan
+publish
+save
+load
+trace
+help open
+help run x
+quit now
+look 1
+END
+cat >"$work/expected" <<'END'
+circuit: yard, 192 bytes, 5 blocks, 4 rows; cold start
+set: all inputs 0
+latch: e 65535 (10:55.35 min); all inputs 0
+run: 5 blocks worked out, 0 to go
+publish: AQ1 -5; changed: AQ1 0 -> -5
+phase    waiting
+inputs   all 0 (as latched)
+M        M1 1 (change at publish)
+AM       all 0 (change at publish)
+outputs  AQ1 -5 (as published)
+block  label             kind                  inputs               output
+    1  press             AND edge              I1 0, - 1, - 1, - 1       0  remembered 0
+END
+cat >"$work/complaints" <<'END'
+gateway: line 1: there is no command `open`; help tells those that there are
+gateway: line 2: `I25` is no input; expected is I1 to I24 or AI1 to AI8
+gateway: line 3: `` is no value of I1; expected is 0 or 1
+gateway: line 4: `2` is no value of I1; expected is 0 or 1
+gateway: line 5: `1001` is no value of AI1; expected is 0 to 1000
+gateway: line 6: `Q1` is no input; expected is I1 to I24 or AI1 to AI8
+gateway: line 8: `x` is no time for latch; expected is 0 to 65535 ticks of 10 ms, such as 50, 500ms, 2.5s or 3min
+gateway: line 9: `655.36s` is no time for latch; expected is 0 to 65535 ticks of 10 ms, such as 50, 500ms, 2.5s or 3min
+gateway: line 10: `15ms` is no time for latch; expected is 0 to 65535 ticks of 10 ms, such as 50, 500ms, 2.5s or 3min
+gateway: line 11: `2` is too much on this line
+gateway: line 12: run is refused (22): no scan is open; latch opens one
+gateway: line 13: publish is refused (22): no scan is open; latch opens one
+gateway: line 14: `0` is no number of blocks; expected is 1 to 4294967295, or all
+gateway: line 15: `` is no number of blocks; expected is 1 to 4294967295, or all
+gateway: line 16: `x` is too much on this line
+gateway: line 17: `6` is no block; expected is 1 to 5
+gateway: line 18: `0` is no block; expected is 1 to 5
+gateway: line 19: `3` is no last block; expected is 4 to 5
+gateway: line 20: `3` is too much on this line
+gateway: line 21: `0` is no number of scans; expected is 1 to 1000000
+gateway: line 22: `3` is too much on this line
+gateway: line 23: `-1` is no time for latch; expected is 0 to 65535 ticks of 10 ms, such as 50, 500ms, 2.5s or 3min
+gateway: line 25: latch is refused (22): a scan is open with 5 blocks to go; run, then publish
+gateway: line 26: warm is refused (22): a scan is open with 5 blocks to go; run, then publish
+gateway: line 27: load is refused: a scan is open and would be lost; close it by run and publish, or give it up by cold
+gateway: line 28: `4294967296` is no number of blocks; expected is 0 to 4294967295, or all
+gateway: line 29: `-1` is no number of blocks; expected is 0 to 4294967295, or all
+gateway: line 30: `1` is too much on this line
+gateway: line 31: publish is refused (22): a scan is open with 5 blocks to go; run, then publish
+gateway: line 33: latch is refused (22): a scan is open and worked out; publish closes it
+gateway: line 35: save needs the name of a file: save FILE
+gateway: line 36: load needs the name of a file: load FILE
+gateway: line 37: no trace is being written: trace FILE begins one
+gateway: line 38: there is no command `open`; help tells those that there are
+gateway: line 39: `x` is too much on this line
+gateway: line 40: `now` is too much on this line
+END
+says 1 yard --script bad.script </dev/null
+echo "gateway: $(wc -l <"$work/complaints") bad commands, each told"
+
+# ---- lines that are no text
+{ head -c 4097 /dev/zero | tr '\0' x && printf '\nru\0n\n#%4095s\nset' '' ; } >"$work/lines.script"
+printf 'circuit: yard, 192 bytes, 5 blocks, 4 rows; cold start\nset: all inputs 0\n' >"$work/expected"
+cat >"$work/complaints" <<'END'
+gateway: line 1: a line has at most 4096 bytes
+gateway: line 2: a zero byte stands in the line; a line is text of at most 4096 bytes
+END
+says 1 yard --script lines.script </dev/null
+
+# ---- files: what is no record of this circuit is refused, and what stands at a name is kept
+python3 tests/circuit_source.py samples/harbour.source "$work/harbour" || exit 1
+printf 'save harbour.record\n' | (cd "$work" && run "$here/$gateway" harbour) >/dev/null || exit 1
+sed 's/^\(record .* \)1\(.*\)$/\10\2/' "$work/yard.record" >"$work/damaged.record"
+sed 's/ 1$/ 2/;q' "$work/yard.record" >"$work/version.record"
+head -c 100 "$work/yard.record" >"$work/cut.record"
+mkdir "$work/folder"
+cp "$work/yard.record" "$work/before.record"
+cat >"$work/files.script" <<'END'
+load there_is_none
+load folder
+load yard
+load harbour.record
+load damaged.record
+load version.record
+load cut.record
+load a name with blanks
+save yard
+save folder
+save there/is/none
+trace yard
+trace there/is/none
+trace one.trace
+trace two.trace
+trace
+trace one.trace
+save a name with blanks
+load a name with blanks
+END
+cat >"$work/expected" <<'END'
+circuit: yard, 192 bytes, 5 blocks, 4 rows; cold start
+trace: one.trace
+trace: ended
+save: a name with blanks
+load: a name with blanks, waiting
+END
+sums=($(sed -n 's/^\(circuit [0-9]*\|sum\) //p' "$work/harbour.record" "$work/yard.record" "$work/damaged.record"))
+cat >"$work/complaints" <<END
+gateway: line 1: there_is_none cannot be opened: No such file or directory; a file with a record is expected; the record is as it was
+gateway: line 2: folder is not a file; a file with a record is expected; the record is as it was
+gateway: line 3: yard is no record file: it does not begin with 'serifdove record '; the record is as it was
+gateway: line 4: harbour.record is of another circuit, with 496 bytes and sum ${sums[0]}; this one has 192 bytes and sum ${sums[2]}; the record is as it was
+gateway: line 5: damaged.record is damaged: its sum is ${sums[3]}, that of its bytes is $(head -n 3 "$work/damaged.record" | python3 -c 'import sys, zlib; print("%08x" % zlib.crc32(sys.stdin.buffer.read()))'); the record is as it was
+gateway: line 6: version.record is a record file of version 2; version 1 is expected; the record is as it was
+gateway: line 7: cut.record is cut short: its last line, 'sum SUM', is missing; the record is as it was
+gateway: line 8: a name with blanks cannot be opened: No such file or directory; a file with a record is expected; the record is as it was
+gateway: line 9: yard is no record file and is not replaced; a record file or a name that is free is expected
+gateway: line 10: folder is not a file and is not replaced; a record file or a name that is free is expected
+gateway: line 11: there/is/none is as it was: its folder cannot be opened: No such file or directory
+gateway: line 12: yard is there already and is not replaced: give the trace another name
+gateway: line 13: there/is/none cannot be made: No such file or directory; a trace needs the name of a file that is not there yet
+gateway: line 15: a trace is being written: trace alone ends it, then another can begin
+gateway: line 17: one.trace is there already and is not replaced: give the trace another name
+END
+cp "$work/yard" "$work/yard.before"
+says 1 yard --script files.script </dev/null
+cmp "$work/yard" "$work/yard.before" || exit 1
+[ -z "$(find "$work" -name '*.new')" ] || { echo "gateway: a temporary file is left" && exit 1; }
+echo "gateway: $(wc -l <"$work/complaints") bad files and names, each told"
+
+# full CALL: the files of the gateway may have at most 1,024 bytes, as on a full disk
+full() {
+    (trap '' XFSZ && ulimit -f 1 && cd "$work" && printf '%s\n' "$@" | run "$here/$gateway" harbour >/dev/null 2>err)
+    [ $? -eq 1 ] || { echo "gateway: a full disk is not told: $*" && exit 1; }
+}
+full 'trace full.trace' 'scan 1 3' 'scan 1'
+grep -q 'the trace could not be written whole' "$work/err" || { cat "$work/err" && exit 1; }
+printf 'set I9 1\nscan 5\nsave small.record\n' | (cd "$work" && run "$here/$gateway" harbour) >/dev/null || exit 1
+cp "$work/small.record" "$work/small.before"
+(trap '' XFSZ && ulimit -f 0 && cd "$work" && printf 'save small.record\nload small.record\n' | run "$here/$gateway" harbour 2>&1 >/dev/null) | cat >"$work/err"
+grep -q 'small.record is as it was' "$work/err" && cmp "$work/small.record" "$work/small.before" && [ ! -e "$work/small.record.new" ] ||
+    { echo "gateway: a record file is lost on a full disk: $(cat "$work/err")" && exit 1; }
+run $gateway "$work/harbour" </dev/null >/dev/full 2>"$work/err"
+[ $? -eq 2 ] && grep -q 'standard output cannot be written' "$work/err" || { echo "gateway: no error where nothing can be printed" && exit 1; }
+echo "gateway: a full disk"
+
+# ---- a fault sent as a trace: the session again, with refused calls and a load, played by the player to the same answers
+{ printf 'trace yard.trace\n' && cat "$work/yard.script"; } >"$work/traced.script"
+sed -i '1a publish\nload yard.record\nrun 3' "$work/traced.script"
+(cd "$work" && run "$here/$gateway" yard --turn 2 --script traced.script >out 2>err)
+[ $? -eq 1 ] && [ "$(tail -n 1 "$work/yard.trace")" = . ] || exit 1
+run $replay <"$work/yard.trace" >"$work/answers" || exit 1
+grep '^<' "$work/yard.trace" | cmp - "$work/answers" || { echo "gateway: its trace is played otherwise" && exit 1; }
+made=$(grep -c '^> ' "$work/yard.trace") answers=$(wc -l <"$work/answers") loads=$(grep -c '^> rec ' "$work/yard.trace")
+[ "$loads" -eq 2 ] && [ "$made" -eq $((answers + loads)) ] && grep -q '^< 22 ' "$work/answers" || exit 1
+# what the session published is what its trace says: Q1 is the 29th word from the end, AQ1 the 9th
+[ "$(awk '$2 == 0 && last == "publish" { print $(NF - 27), $(NF - 7) } /^>/ { last = $2 }' "$work/yard.trace" | uniq | tr '\n' ' ')" = '1 700 0 -5 ' ] || exit 1
+echo "gateway: a trace of $answers answers, played again"
+
+# ---- by the clock: the first latch has e 0, a later one what passed; no rest is lost
+{ printf 'latch\nrun\npublish\n' && sleep 2 && printf 'latch\nrun\npublish\nlatch\n'; } | run $gateway "$work/yard" >"$work/out" || exit 1
+e=($(sed -n 's/^latch: e \([0-9]*\) .*/\1/p' "$work/out"))
+[ "${e[0]}" -eq 0 ] && [ "${e[1]}" -ge 100 ] && [ "${e[1]}" -lt 3000 ] || { echo "gateway: by the clock e is ${e[*]}" && exit 1; }
+
+# ---- at a terminal: a prompt, colour unless it is not wanted, no line numbers; in a pipe none of that
+cat >"$work/terminal.py" <<'END'
+import os, pty, sys
+lines, words = sys.argv[1].split(";"), sys.argv[2:]
+child, terminal = pty.fork()
+if child == 0:
+    os.execvp(words[0], words)
+seen = b""
+def until(end):
+    global seen
+    more, fresh = b"-", b""
+    while more and not fresh.endswith(end):
+        try:
+            more = os.read(terminal, 4096)
+        except OSError:
+            more = b""
+        fresh += more
+    seen += fresh
+for line in lines:
+    until(b"gateway> ")
+    os.write(terminal, line.encode() + b"\n")
+until(b"\0")
+sys.stdout.write(seen.decode().replace("\r", ""))
+sys.exit(os.waitstatus_to_exitcode(os.waitpid(child, 0)[1]))
+END
+session='latch 1;run 2;look;open;quit'
+NO_COLOR= TERM=xterm python3 "$work/terminal.py" "$session" "${runner[@]}" $gateway "$work/yard" >"$work/seen"
+[ $? -eq 1 ] && grep -q '^gateway> look' "$work/seen" && grep -q $'^\033\\[1;33m====>.*\033\\[0m$' "$work/seen" && grep -q $'^\033\\[2m    3  bits' "$work/seen" &&
+    grep -q '^gateway: there is no command `open`' "$work/seen" || { echo "gateway: at a terminal:" && cat -v "$work/seen" && exit 1; }
+NO_COLOR=1 TERM=xterm python3 "$work/terminal.py" "$session" "${runner[@]}" $gateway "$work/yard" >"$work/seen"
+grep -q '^====>' "$work/seen" && ! grep -q $'\033' "$work/seen" || { echo "gateway: colour that is not wanted" && exit 1; }
+tr ';' '\n' <<<"$session" | run $gateway "$work/yard" >"$work/seen" 2>&1
+! grep -q -e $'\033' -e 'gateway> ' "$work/seen" && grep -q '^gateway: line 4: ' "$work/seen" || { echo "gateway: in a pipe:" && cat -v "$work/seen" && exit 1; }
+echo "gateway: at a terminal and in a pipe"
+run $gateway --help | grep -q '^usage: gateway CIRCUIT' || exit 1
