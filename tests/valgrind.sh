@@ -13,7 +13,8 @@ here=$PWD
 
 # under PROGRAM WORD..: in the work folder, under valgrind; what it finds stands in `report`
 under() {
-    (cd "$work" && valgrind --error-exitcode=99 --leak-check=full --errors-for-leak-kinds=definite,indirect,possible -q --log-file=report "$@" >out 2>err)
+    (cd "$work" && valgrind -q --log-file=report --error-exitcode=99 --leak-check=full --errors-for-leak-kinds=definite,indirect,possible \
+        "$@" >out 2>err)
 }
 
 # watched STATUS PROGRAM WORD..: it ends with this status, and valgrind finds nothing
@@ -80,7 +81,7 @@ save box.record
 run 4294967295
 publish
 look
-scan 2.5s 30
+scan 2.5s 3
 scan
 turn all
 scan 10ms 3
