@@ -370,44 +370,47 @@ static void refuse_forged(const char *words, const char *format, ...) {
     must_refuse(format, words);
 }
 
+/* A first line in place of the right one, or a whole file without a sum made for it; and what the message must hold. */
+static const char *const first_lines[][2] = {
+    {"", "no record file"},
+    {"sum", "no record file"},
+    {"serifdove recor", "no record file"},
+    {"Serifdove record 1", "no record file"},
+    {"serifdove record 2", "version 2; version 1"},
+    {"serifdove record 0", "version 0"},
+    {"serifdove record 01", "version 01"},
+    {"serifdove record 11", "version 11"},
+    {"serifdove record ", "damaged"},
+    {"serifdove record x", "damaged"},
+    {"serifdove record 1 ", "damaged"},
+    {"serifdove record 1\r", "damaged"},
+    {"serifdove record -1", "damaged"},
+    {"serifdove record 1@", "damaged"},
+    {"serifdove record 99999999999999999999999999", "version 99999999999999999999;"},
+};
+
+static const char *const short_files[][2] = {
+    {"", "no record file"},
+    {"serifdove record ", "cut short"},
+    {"serifdove record 1", "cut short"},
+    {"serifdove record 1\n", "cut short"},
+    {"serifdove record 1\nsum", "cut short"},
+    {"serifdove record 1\nsum ", "cut short"},
+    {"serifdove record 1\nsum 00000000", "cut short"},
+    {"serifdove record 1\nsum 00000000\n", "damaged: its sum is 00000000"},
+    {"serifdove record 1\nsum 0000000g\n", "damaged"},
+    {"serifdove record 1\nsum 0000000 \n", "damaged"},
+    {"serifdove record 1\nsum 000000000", "damaged"},
+    {"serifdove record 2\nsum 00000000\n", "version 2"},
+    {"serifdove record 1\ncircuit 1 00000000\nrecord 0\nsum 00000000\n", "damaged"},
+};
+
 static void other_frames(void) {
-    static const char *const first[][2] = {
-        {"", "no record file"},
-        {"sum", "no record file"},
-        {"serifdove recor", "no record file"},
-        {"Serifdove record 1", "no record file"},
-        {"serifdove record 2", "version 2; version 1"},
-        {"serifdove record 0", "version 0"},
-        {"serifdove record 01", "version 01"},
-        {"serifdove record 11", "version 11"},
-        {"serifdove record ", "damaged"},
-        {"serifdove record x", "damaged"},
-        {"serifdove record 1 ", "damaged"},
-        {"serifdove record 1\r", "damaged"},
-        {"serifdove record -1", "damaged"},
-        {"serifdove record 1@", "damaged"},
-        {"serifdove record 99999999999999999999999999", "version 99999999999999999999;"},
-    };
-    for (size_t i = 0; i < sizeof first / sizeof *first; i++)
-        refuse_forged(first[i][1], "%s\n%s\n%s\n", first[i][0], circuit_line, record_line);
-    static const char *const whole[][2] = {
-        {"", "no record file"},
-        {"serifdove record ", "cut short"},
-        {"serifdove record 1", "cut short"},
-        {"serifdove record 1\n", "cut short"},
-        {"serifdove record 1\nsum", "cut short"},
-        {"serifdove record 1\nsum ", "cut short"},
-        {"serifdove record 1\nsum 00000000", "cut short"},
-        {"serifdove record 1\nsum 00000000\n", "damaged: its sum is 00000000"},
-        {"serifdove record 1\nsum 0000000g\n", "damaged"},
-        {"serifdove record 1\nsum 0000000 \n", "damaged"},
-        {"serifdove record 1\nsum 000000000", "damaged"},
-        {"serifdove record 2\nsum 00000000\n", "version 2"},
-        {"serifdove record 1\ncircuit 1 00000000\nrecord 0\nsum 00000000\n", "damaged"},
-    };
-    for (size_t i = 0; i < sizeof whole / sizeof *whole; i++) {
-        put_bytes(path, whole[i][0], strlen(whole[i][0]));
-        must_refuse(whole[i][0], whole[i][1]);
+    for (size_t i = 0; i < sizeof first_lines / sizeof *first_lines; i++)
+        refuse_forged(first_lines[i][1], "%s\n%s\n%s\n", first_lines[i][0], circuit_line, record_line);
+    for (size_t i = 0; i < sizeof short_files / sizeof *short_files; i++) {
+        put_bytes(path, short_files[i][0], strlen(short_files[i][0]));
+        must_refuse(short_files[i][0], short_files[i][1]);
     }
     static char lines[2 * MOST_TEXT];
     snprintf(lines, sizeof lines, "serifdove record 1\n%s\n%s\n", circuit_line, record_line);
@@ -418,70 +421,27 @@ static void other_frames(void) {
     must_refuse("two sums", "behind");
 }
 
+static const char *const malformed_circuits[] = {
+    "circuit", "circuit ", "circuit 1", "circuit 1 ", "circuit 1 0000000", "circuit 1 000000000", "circuit 1 0000000A",
+    "circuit 1 0000000g", "circuit  1 00000000", "circuit 1  00000000", "circuit 1 00000000 ", "circuit 1 00000000 1",
+    "circuit 01 00000000", "circuit -1 00000000", "circuit -0 00000000", "circuit +1 00000000", "circuit 4294967296 00000000",
+    "circuit 99999999999999999999 00000000", "circuit x 00000000", " circuit 1 00000000", "Circuit 1 00000000",
+    "circuit 1 00000000\r", "circuit 1@00000000", "", "record 0",
+};
+
+static const char *const malformed_records[] = {
+    "record", "record ", "record x", "record -1", "record +1 1", "record 1", "record 2 1", "record 0 1", "record 1 1 1",
+    "record 1  1", "record 1 1 ", "record 1 1x", "record 1 -", "record 1 --1", "record 1 -0", "record 1 00", "record 1 01",
+    "record 1 0x1", "record 1 1.0", "record 1\t1", "record 1 2147483648", "record 1 -2147483649", "record 1 99999999999999999999",
+    "record 99999999999999999999 1", "record 4294967295 1", "record 1 1\r", "record 1 1@", " record 1 1", "Record 1 1", "",
+    "record 1 1\n", "record 1 1\nrecord 1 1", "record 0 ", "record 00",
+};
+
 static void malformed_lines(void) {
-    static const char *const circuits[] = {"circuit",
-                                           "circuit ",
-                                           "circuit 1",
-                                           "circuit 1 ",
-                                           "circuit 1 0000000",
-                                           "circuit 1 000000000",
-                                           "circuit 1 0000000A",
-                                           "circuit 1 0000000g",
-                                           "circuit  1 00000000",
-                                           "circuit 1  00000000",
-                                           "circuit 1 00000000 ",
-                                           "circuit 1 00000000 1",
-                                           "circuit 01 00000000",
-                                           "circuit -1 00000000",
-                                           "circuit -0 00000000",
-                                           "circuit +1 00000000",
-                                           "circuit 4294967296 00000000",
-                                           "circuit 99999999999999999999 00000000",
-                                           "circuit x 00000000",
-                                           " circuit 1 00000000",
-                                           "Circuit 1 00000000",
-                                           "circuit 1 00000000\r",
-                                           "circuit 1@00000000",
-                                           "",
-                                           "record 0"};
-    for (size_t i = 0; i < sizeof circuits / sizeof *circuits; i++)
-        refuse_forged("malformed", "serifdove record 1\n%s\n%s\n", circuits[i], record_line);
-    static const char *const records[] = {"record",
-                                          "record ",
-                                          "record x",
-                                          "record -1",
-                                          "record +1 1",
-                                          "record 1",
-                                          "record 2 1",
-                                          "record 0 1",
-                                          "record 1 1 1",
-                                          "record 1  1",
-                                          "record 1 1 ",
-                                          "record 1 1x",
-                                          "record 1 -",
-                                          "record 1 --1",
-                                          "record 1 -0",
-                                          "record 1 00",
-                                          "record 1 01",
-                                          "record 1 0x1",
-                                          "record 1 1.0",
-                                          "record 1\t1",
-                                          "record 1 2147483648",
-                                          "record 1 -2147483649",
-                                          "record 1 99999999999999999999",
-                                          "record 99999999999999999999 1",
-                                          "record 4294967295 1",
-                                          "record 1 1\r",
-                                          "record 1 1@",
-                                          " record 1 1",
-                                          "Record 1 1",
-                                          "",
-                                          "record 1 1\n",
-                                          "record 1 1\nrecord 1 1",
-                                          "record 0 ",
-                                          "record 00"};
-    for (size_t i = 0; i < sizeof records / sizeof *records; i++)
-        refuse_forged("malformed", "serifdove record 1\n%s\n%s\n", circuit_line, records[i]);
+    for (size_t i = 0; i < sizeof malformed_circuits / sizeof *malformed_circuits; i++)
+        refuse_forged("malformed", "serifdove record 1\n%s\n%s\n", malformed_circuits[i], record_line);
+    for (size_t i = 0; i < sizeof malformed_records / sizeof *malformed_records; i++)
+        refuse_forged("malformed", "serifdove record 1\n%s\n%s\n", circuit_line, malformed_records[i]);
     refuse_forged("malformed", "serifdove record 1\n%s\n", circuit_line);
     refuse_forged("cut short", "serifdove record 1\n%s\n%s", circuit_line, record_line);
     refuse_forged("malformed", "serifdove record 1\n%s\n%s\n", record_line, circuit_line);

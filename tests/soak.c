@@ -205,8 +205,9 @@ static void do_run(chance *with) {
         expect(WHOLE, "run: %zu block%s worked out, %zu to go", answer.first, answer.first == 1 ? "" : "s", answer.second);
 }
 
-static void do_publish(void) {
+static void do_publish(chance *with) {
     int32_t before[SERIFDOVE_OUTPUT_WORD_COUNT];
+    (void)with;
     memcpy(before, outputs, sizeof before);
     command("publish");
     if (is_accepted(serifdove_publish(made.bytes, made.length, record, words, outputs, SERIFDOVE_OUTPUT_WORD_COUNT)))
@@ -272,97 +273,50 @@ static void do_load(unsigned file) {
     expect(WHOLE, "load: %s, %s", file_names[file], phase);
 }
 
+/* Refused in any phase. */
+static const char *const bad_commands[] = {
+    "frobnicate", "set I25 1", "set I1 2", "set AI1 1001", "set I1", "set AI9 1", "latch 65536", "latch x", "latch 1 2", "latch -1",
+    "run -1", "run 4294967296", "run x", "run 1 1", "publish now", "warm now", "cold now", "save", "load", "load missing.record",
+    "load .", "save .", "save missing/x", "save circuit", "load circuit", "load torn.record", "look 0", "look 401", "turn 0",
+    "turn", "help frobnicate", "trace", "scan x", "scan 1 0", "quit now", "Cold", "\x01",
+};
+
 static void do_bad(chance *with) {
-    static const char *const bad[] = {"frobnicate",
-                                      "set I25 1",
-                                      "set I1 2",
-                                      "set AI1 1001",
-                                      "set I1",
-                                      "set AI9 1",
-                                      "latch 65536",
-                                      "latch x",
-                                      "latch 1 2",
-                                      "latch -1",
-                                      "run -1",
-                                      "run 4294967296",
-                                      "run x",
-                                      "run 1 1",
-                                      "publish now",
-                                      "warm now",
-                                      "cold now",
-                                      "save",
-                                      "load",
-                                      "load missing.record",
-                                      "load .",
-                                      "save .",
-                                      "save missing/x",
-                                      "save circuit",
-                                      "load circuit",
-                                      "load torn.record",
-                                      "look 0",
-                                      "look 401",
-                                      "turn 0",
-                                      "turn",
-                                      "help frobnicate",
-                                      "trace",
-                                      "scan x",
-                                      "scan 1 0",
-                                      "quit now",
-                                      "Cold",
-                                      "\x01"};
-    command("%s", bad[below(with, sizeof bad / sizeof *bad)]);
+    command("%s", bad_commands[below(with, sizeof bad_commands / sizeof *bad_commands)]);
     must_be_refused();
 }
 
-/* Most often what goes on with a scan. */
+static void do_nothing(chance *with) { command(once_in(with, 2) ? "# a comment" : ""); }
+
+static void do_warm(chance *with) {
+    (void)with;
+    do_start(true);
+}
+
+static void do_cold_seldom(chance *with) {
+    if (once_in(with, 3))
+        do_start(false);
+}
+
+static void do_some_save(chance *with) { do_save(below(with, FILES)); }
+
+static void do_some_load(chance *with) { do_load(below(with, FILES)); }
+
+/* What is done beside going on with the scan, each as often as it stands here. */
+static void (*const asides[])(chance *) = {do_warm, do_cold_seldom, do_bad, do_look, do_turn, do_some_load, do_nothing,  do_publish,
+                                           do_scan, do_scan,        do_set, do_set,  do_set,  do_some_save, do_some_save};
+
 static void do_something(chance *with) {
-    const bool in_scan = record[SERIFDOVE_PHASE] == 1, done = record[SERIFDOVE_DONE] == (int32_t)made.n;
-    switch (below(with, 24)) {
-    case 0:
-        do_start(true);
-        return;
-    case 1:
-        if (once_in(with, 3))
-            do_start(false);
-        return;
-    case 2:
-        do_bad(with);
-        return;
-    case 3:
-        do_look(with);
-        return;
-    case 4:
-        do_turn(with);
-        return;
-    case 5:
-        do_load(below(with, FILES));
-        return;
-    case 6:
-        command(once_in(with, 2) ? "# a comment" : "");
-        return;
-    case 7:
-        do_publish();
-        return;
-    case 8:
-    case 9:
-        do_scan(with);
-        return;
-    case 10:
-    case 11:
-    case 12:
-        do_set(with);
-        return;
-    case 13:
-    case 14:
-        do_save(below(with, FILES));
-        return;
-    }
-    if (!in_scan)
+    enum { CHOICES = 24 };
+    const unsigned which = below(with, CHOICES);
+    if (which < sizeof asides / sizeof *asides)
+        asides[which](with);
+    else if (record[SERIFDOVE_PHASE] == 0)
         do_latch(with);
-    else if (!done)
+    else if (record[SERIFDOVE_DONE] < (int32_t)made.n)
         do_run(with);
     else
-        do_publish();
+        do_publish(with);
 }
 
 /* ---- a life */
@@ -687,8 +641,8 @@ static void soak(double minutes, char **gateway) {
         for (unsigned life = 0; life < LIVES_OF_A_CIRCUIT; life++)
             live(&with, gateway);
     } while (microseconds() - from < most);
-    printf("soak: seed %" PRIu64 ": %" PRIu64 " circuits, %" PRIu64 " lives, %" PRIu64 " commands (%" PRIu64
-           " of them to be refused), %" PRIu64 " lines as expected\n",
+    printf("soak: seed %" PRIu64 ": %" PRIu64 " circuits, %" PRIu64 " lives, %" PRIu64 " commands given, %" PRIu64
+           " of them to be refused, %" PRIu64 " lines as expected\n",
            seed, counted.circuits, counted.lives, counted.commands, counted.refused, counted.lines);
     printf("soak: %" PRIu64 " saves told, %" PRIu64 " kills, %" PRIu64 " of them inside a save, %" PRIu64 " loads told\n", counted.saves,
            counted.kills, counted.inside, counted.loads);
