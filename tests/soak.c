@@ -30,7 +30,7 @@ static const char usage[] = "usage: soak.sh [--minutes N] [--seed S]\n"
 static const char *const file_names[FILES] = {"box.record", "dock door 4.record", "again.record"};
 
 static const char *folder;
-static uint64_t seed;
+static uint64_t seed, circuit_seed; /* each life has a seed of its own: the circuit's, and its number among the circuit's lives */
 static struct { uint64_t circuits, lives, commands, refused, lines, saves, kills, inside, loads; } counted;
 
 static _Noreturn void mismatch(const char *format, ...) {
@@ -39,8 +39,9 @@ static _Noreturn void mismatch(const char *format, ...) {
     printf("soak: mismatch: ");
     vprintf(format, words);
     va_end(words);
-    printf("\nsoak: seed %" PRIu64 ", circuit %" PRIu64 ", life %" PRIu64 "; the files are kept in %s\n", seed, counted.circuits,
-           counted.lives, folder);
+    printf("\nsoak: seed %" PRIu64 ", circuit %" PRIu64 ", life %" PRIu64 "; from this circuit on: --seed %" PRIu64
+           "\nsoak: the files are kept in %s\n",
+           seed, counted.circuits, counted.lives, circuit_seed, folder);
     fflush(stdout);
     exit(1);
 }
@@ -636,10 +637,12 @@ static void begin_circuit_files(chance *with) {
 static void soak(double minutes, char **gateway) {
     const uint64_t from = microseconds(), most = (uint64_t)(minutes * 60e6);
     do {
-        chance with = chance_of(seed + counted.circuits);
+        chance with = chance_of(circuit_seed = seed + counted.circuits * (LIVES_OF_A_CIRCUIT + 1));
         begin_circuit_files(&with);
-        for (unsigned life = 0; life < LIVES_OF_A_CIRCUIT; life++)
+        for (unsigned life = 1; life <= LIVES_OF_A_CIRCUIT; life++) {
+            with = chance_of(circuit_seed + life);
             live(&with, gateway);
+        }
     } while (microseconds() - from < most);
     printf("soak: seed %" PRIu64 ": %" PRIu64 " circuits, %" PRIu64 " lives, %" PRIu64 " commands given, %" PRIu64
            " of them to be refused, %" PRIu64 " lines as expected\n",

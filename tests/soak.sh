@@ -14,11 +14,12 @@ done
 need_c
 need_archive
 build_gateway
+cp $gateway "$work/gateway" || exit 2
 build_c "$work/soak" tests/soak.c host/record_file.c host/files.c tests/records.c tests/circuits.c
 
 # soak WORD..: in $folder
 soak() {
-    run "$work/soak" "$@" -- "$folder" "${runner[@]}" "$PWD/$gateway"
+    run "$work/soak" "$@" -- "$folder" "${runner[@]}" "$work/gateway"
 }
 
 for name in torn_file first_save_back file_lost another_word another_line; do
