@@ -30,6 +30,7 @@ is Q1..Q20, M1..M64, AQ1..AQ8 or AM1..AM64.
 
 What is wrong is told as SOURCE:LINE: what is wrong; what is expected. The status is then 1 and nothing is written. Whether the circuit is
 accepted (ranges, an own or later block, something used twice) is for check to judge."""
+import contextlib
 import re
 import sys
 
@@ -80,7 +81,7 @@ TIMES = {
 }
 
 # a quoted text, a comment, or a word, which may not hold a quote or begin a comment
-WORDS = re.compile(r'\s*(?:("[^"]*"(?=\s|$|#))|(#.*)|([^\s"#]+)|(.))', re.DOTALL)
+WORDS = re.compile(r'\s*(?:("[^"]*"(?=\s|$|#))|(#.*)|([^\s"#]+(?=\s|$|#))|(.))', re.DOTALL)
 NAME = re.compile(r"[A-Za-z][A-Za-z0-9_]*")
 NUMBERED = re.compile(r"([A-Z]+)(\d{1,3})", re.ASCII)
 
@@ -97,7 +98,7 @@ def words_of(line):
     words = []
     for quoted, comment, word, stray in WORDS.findall(line.strip()):
         if stray:
-            raise Fault(f"a quote stands where none may; expected label \"TEXT\" with blanks around it")
+            raise Fault('a quote stands where none may; expected label "TEXT", with blanks around it')
         if not comment:
             words.append(quoted or word)
     return words
@@ -188,7 +189,7 @@ def split_label(words):
     if "label" not in words[3:]:
         return words, words[1].encode()
     if len(words) < 5 or words[-2] != "label" or not words[-1].startswith('"'):
-        raise Fault("a label is not the last of its line; expected label \"TEXT\" at the end")
+        raise Fault('the label is out of place or is no text; expected label "TEXT" as the last two words')
     text = words[-1].strip('"').encode()
     if len(text) > MOST_LABEL_BYTES:
         raise Fault(f"the label has {len(text)} bytes; expected at most {MOST_LABEL_BYTES}")
@@ -197,7 +198,7 @@ def split_label(words):
 
 def row_field(words, blocks):
     if len(words) != 3:
-        raise Fault(f"a row has {len(words) - 1} words; expected row DESTINATION CONNECTOR")
+        raise Fault(f"a row has {len(words)} words; expected three, row DESTINATION CONNECTOR")
     destination = numbered(words[1], DESTINATIONS)
     if not destination:
         raise Fault(f"'{words[1]}' is no destination; expected Q, M, AQ or AM with a number")
@@ -220,7 +221,7 @@ def enter(words, blocks):
     if words[0] != "block":
         raise Fault(f"a line begins with '{words[0]}'; expected block or row")
     if len(words) < 3:
-        raise Fault(f"a block has {len(words) - 1} words; expected block NAME KIND ..")
+        raise Fault("a block lacks its name or kind; expected block NAME KIND ..")
     judge_name(words[1], blocks)
     if words[2] not in KINDS:
         raise Fault(f"'{words[2]}' is no kind; expected one of {' '.join(KINDS)}")
@@ -229,39 +230,41 @@ def enter(words, blocks):
     blocks[words[1]] = len(blocks) + 1, KINDS[words[2]][0]
 
 
-def faults_of(lines, step):
-    """Carries out a step for each line; what is wrong, as number and words."""
-    faults = []
-    for number, line in lines:
-        try:
-            step(line)
-        except Fault as fault:
-            faults.append((number, fault))
-    return faults
+@contextlib.contextmanager
+def faults_at(number, faults):
+    """What is wrong in the line of this number is added to the faults."""
+    try:
+        yield
+    except Fault as fault:
+        faults.append((number, fault))
+
+
+def read_lines(text, blocks, faults):
+    """Number and words of each line that has some; its block is taken note of."""
+    lines = []
+    for number, line in enumerate(text.split("\n"), 1):
+        with faults_at(number, faults):
+            words = words_of(line)
+            if words:
+                enter(words, blocks)
+                lines.append((number, words))
+    return lines
 
 
 def circuit_of(text):
-    """The circuit's bytes and no faults, or nothing and the faults."""
-    lines, blocks, block_fields, row_fields = [], {}, [], []
-
-    def read(numbered_line):
-        number, line = numbered_line
-        words = words_of(line)
-        if words:
-            enter(words, blocks)
-            lines.append((number, words))
-
-    def write(words):
-        if words[0] == "row":
-            row_fields.append(row_field(words, blocks))
-        else:
-            words, text = split_label(words)
-            block_fields.append(block_field(words, blocks) + label(text))
-
-    faults = faults_of([(number, (number, line)) for number, line in enumerate(text.split("\n"), 1)], read) or faults_of(lines, write)
+    """The circuit's bytes, and what is wrong as pairs of a line's number and a fault."""
+    faults, blocks, block_fields, row_fields = [], {}, [], []
+    lines = read_lines(text, blocks, faults)
     if faults:
         return b"", faults
-    return header(len(blocks)) + b"".join(block_fields) + b"".join(row_fields) + end, []
+    for number, words in lines:
+        with faults_at(number, faults):
+            if words[0] == "row":
+                row_fields.append(row_field(words, blocks))
+            else:
+                words, label_text = split_label(words)
+                block_fields.append(block_field(words, blocks) + label(label_text))
+    return header(len(blocks)) + b"".join(block_fields) + b"".join(row_fields) + end, faults
 
 
 def main():
