@@ -124,7 +124,7 @@ static bool stands_at(int file, const char *path) {
 }
 
 /* Opens the temporary file and locks it: who saves to the same FILE waits. What was renamed while the lock was awaited is left alone
-   and the next one opened; each time another has saved. On -1 errno tells why. */
+   and the next one opened; each time another has saved. On -1 errno tells why, and the file, which may be another's, stays. */
 static int open_locked(const char *temporary) {
     enum { MOST_TIMES = 10000 };
     for (unsigned times = 0; times < MOST_TIMES; times++) {
@@ -190,7 +190,7 @@ static bool put_file(const char *path, const char *temporary, const char *text, 
         return not_saved(path, "its folder cannot be opened", why);
     const int file = open_locked(temporary);
     bool saved = file >= 0 ? fill_and_rename(file, temporary, path, text, length, why)
-                           : not_saved(path, "its temporary file (.new) cannot be opened", why);
+                           : not_saved(path, "its temporary file (.new) cannot be opened and locked", why);
     if (saved && !sync_whole(folder) && errno != EINVAL)
         saved = fail(why, "%s is this record, but its folder cannot be synced: %s; if power fails now, it may be the one before", path,
                      strerror(errno));
