@@ -10,6 +10,7 @@
 #include <string.h>
 #include <sys/file.h>
 #include <sys/stat.h>
+#include <time.h>
 #include <unistd.h>
 
 static const char head[] = "serifdove record ", sum_head[] = "sum ";
@@ -55,8 +56,8 @@ static char *text_of(const uint8_t *circuit, size_t circuit_len, const int32_t *
     char *text = malloc(room);
     if (text == NULL)
         return NULL;
-    size_t at =
-        (size_t)snprintf(text, room, "%s1\ncircuit %zu %s\nrecord %zu", head, circuit_len, sum_of(circuit, circuit_len).digits, record_len);
+    size_t at = (size_t)snprintf(text, room, "%s1\ncircuit %zu %s\nrecord %zu", head, circuit_len, sum_of(circuit, circuit_len).digits,
+                                 record_len);
     for (size_t i = 0; i < record_len; i++)
         at += (size_t)snprintf(text + at, room - at, " %" PRId32, record[i]);
     text[at++] = '\n';
@@ -109,11 +110,15 @@ static int open_folder(const char *path) {
     return opened;
 }
 
+/* Locks the file. Who holds it is waited for, two seconds at most. */
 static bool lock(int file) {
-    int status;
-    do
-        status = flock(file, LOCK_EX);
-    while (status != 0 && errno == EINTR);
+    enum { MOST_TIMES = 200 };
+    static const struct timespec hundredth = {.tv_nsec = 10000000};
+    int status = flock(file, LOCK_EX | LOCK_NB);
+    for (unsigned times = 0; status != 0 && (errno == EWOULDBLOCK || errno == EINTR) && times < MOST_TIMES; times++) {
+        nanosleep(&hundredth, NULL);
+        status = flock(file, LOCK_EX | LOCK_NB);
+    }
     return status == 0;
 }
 
@@ -189,8 +194,9 @@ static bool put_file(const char *path, const char *temporary, const char *text, 
     if (folder < 0)
         return not_saved(path, "its folder cannot be opened", why);
     const int file = open_locked(temporary);
-    bool saved = file >= 0 ? fill_and_rename(file, temporary, path, text, length, why)
-                           : not_saved(path, "its temporary file (.new) cannot be opened and locked", why);
+    bool saved = file >= 0              ? fill_and_rename(file, temporary, path, text, length, why)
+                 : errno == EWOULDBLOCK ? not_saved(path, "another program is saving to it, and does not end", why)
+                                        : not_saved(path, "its temporary file (.new) cannot be opened and locked", why);
     if (saved && !sync_whole(folder) && errno != EINVAL)
         saved = fail(why, "%s is this record, but its folder cannot be synced: %s; if power fails now, it may be the one before", path,
                      strerror(errno));

@@ -17,6 +17,7 @@
 #include <stdio.h>
 #include <stdlib.h>
 #include <string.h>
+#include <sys/file.h>
 #include <sys/mman.h>
 #include <sys/stat.h>
 #include <sys/wait.h>
@@ -626,6 +627,22 @@ static void left_behind(void) {
         mismatch("a temporary file that was left is taken, or left again");
 }
 
+/* Another program holds the lock and does not end: FILE and its temporary file stay. */
+static void held(void) {
+    static file_bytes kept;
+    get_bytes(path, &kept);
+    const int holder = __real_open(temporary, O_WRONLY | O_CREAT, 0644);
+    if (holder < 0 || __real_flock(holder, LOCK_EX) != 0)
+        stop(temporary);
+    must_not_save(path, "is as it was: another program is saving to it");
+    if (!has_bytes(path, &kept) || !is_there(temporary))
+        mismatch("a file that another program is saving to is changed");
+    close(holder);
+    save_saved();
+    if (is_there(temporary))
+        mismatch("a temporary file is left behind one that was held");
+}
+
 /* ---- each call of the operating system fails, or the process ends there */
 
 static int next_file(void) {
@@ -713,6 +730,7 @@ static void places(chance *with) {
     at_file();
     beside_file();
     left_behind();
+    held();
     each_call();
 }
 
