@@ -6,6 +6,9 @@ import os
 import sys
 from collections import namedtuple
 
+sys.dont_write_bytecode = True
+from circuit_bytes import BLOCK as BLOCK_TAG, ROW as ROW_TAG, connectors_of, fields_of  # noqa: E402
+
 TRACES = os.path.join(os.path.dirname(os.path.abspath(__file__)), "..", "docs", "pictures")
 
 # ---- a trace
@@ -61,46 +64,26 @@ def number_word(k):
 
 # ---- the circuit's bytes
 
-BLOCK_TAG, ROW_TAG = 0x10, 0x30
 INPUT, HI, FLAG, DIGITAL_BLOCK = 1, 3, 4, 6  # connector classes
 INVERTED = 0x80
 Q = 1  # destination class
-BASIC = {1: 4, 2: 4, 3: 4, 4: 4, 5: 4, 6: 4, 7: 2, 8: 1}  # how many connectors kinds 1 to 8 have; the others: DELAYS
 
 Block = namedtuple("Block", "kind connectors parameters")
 
 
-def fields(circuit):
-    """Tag and content of each field."""
-    at = 0
-    while at < len(circuit):
-        length = int.from_bytes(circuit[at + 1:at + 3], "big")
-        yield circuit[at], circuit[at + 3:at + 3 + length]
-        at += 3 + length
-
-
-def connector_at(content, at):
-    return content[at], int.from_bytes(content[at + 1:at + 3], "big")
-
-
-def connectors_of(kind):
-    """How many connectors a block of this kind has."""
-    return BASIC.get(kind) or next(len(delay.inputs) for delay in DELAYS.values() if delay.kind == kind)
-
-
 def block_of(content):
-    behind = 2 + 3 * connectors_of(content[0])
-    connectors = [connector_at(content, at) for at in range(2, behind, 3)]
-    return Block(content[0], connectors, [int.from_bytes(content[at:at + 4], "big", signed=True) for at in range(behind, len(content), 4)])
+    connectors = connectors_of(BLOCK_TAG, content)
+    parameters = range(2 + 3 * len(connectors), len(content), 4)
+    return Block(content[0], connectors, [int.from_bytes(content[at:at + 4], "big", signed=True) for at in parameters])
 
 
 def blocks_of(circuit):
-    return [block_of(content) for tag, content in fields(circuit) if tag == BLOCK_TAG]
+    return [block_of(content) for tag, content in fields_of(circuit) if tag == BLOCK_TAG]
 
 
 def q_rows(circuit):
     """For each row of a Q: its number and its connector."""
-    return [(content[1], connector_at(content, 2)) for tag, content in fields(circuit) if tag == ROW_TAG and content[0] == Q]
+    return [(content[1], connectors_of(ROW_TAG, content)[0]) for tag, content in fields_of(circuit) if tag == ROW_TAG and content[0] == Q]
 
 
 def value_of(connector, record):

@@ -15,12 +15,11 @@ import re
 import sys
 
 sys.dont_write_bytecode = True
-from circuit_source import ANALOG_BLOCK, DIGITAL_BLOCK, INVERTED, KINDS, RETENTIVE  # noqa: E402
+from circuit_bytes import BLOCK, INPUTS_OF, ROW, connectors_of, fields_of  # noqa: E402
+from circuit_source import ANALOG_BLOCK, DIGITAL_BLOCK, INVERTED, RETENTIVE  # noqa: E402
 
 FIRST_INPUT_WORD = 4
 INPUTS = [f"I{k}" for k in range(1, 25)]
-BLOCK, ROW = 0x10, 0x30
-INPUTS_OF = {kind: len(inputs) for kind, inputs, _ in KINDS.values()}
 FLAG_OF_DESTINATION = {2: 4, 4: 8}  # the class of a flag as a destination, and as a connector: M, AM
 OUTPUTS = [f"Q{k}" for k in range(1, 21)] + [f"AQ{k}" for k in range(1, 9)]
 
@@ -105,23 +104,6 @@ def day(expect, trace):
         if expect.numbers[name] != got:
             yield f"{name}: expected {expect.numbers[name]}, the trace has {got}"
     yield from broken_rules(expect, scans)
-
-
-def fields_of(content):
-    at = 0
-    while at < len(content):
-        length = int.from_bytes(content[at + 1 : at + 3], "big")
-        yield content[at], content[at + 3 : at + 3 + length]
-        at += 3 + length
-
-
-def connectors_of(tag, content):
-    """Of a block or a row, class and number of each connector."""
-    if tag == ROW:
-        places = [2]
-    else:
-        places = range(2, 2 + 3 * INPUTS_OF[content[0]], 3)
-    return [(content[at], int.from_bytes(content[at + 1 : at + 3], "big")) for at in places]
 
 
 def unused_blocks(fields):
