@@ -1,6 +1,6 @@
 #!/usr/bin/env bash
 # docs/OPERATING.md and docs/example.c. The example is built and run, on accepted circuits and on one that is refused. The page tells the truth: its C
-# stands in the example, its table of words fits the header, its bytes are refused as it says, its sessions are what the gateway program
+# stands in the example, its table of words fits the header, its bytes are refused as it says, its dialogues are what the gateway program
 # prints, its trace plays. And it is complete: it has each name and number of the header, and each command that `help` tells.
 source "$(dirname "${BASH_SOURCE[0]}")/host.bash"
 need python3 python3
@@ -116,19 +116,19 @@ done
 # ---- the page against the gateway program
 
 root=$PWD
-# in_work PROGRAM WORD..: runs it in the work folder, where the sessions' files stand
+# in_work PROGRAM WORD..: runs it in the work folder, where the dialogues' files stand
 in_work() {
     (cd "$work" && run "$root/$1" "${@:2}")
 }
 
 block source 1 >"$work/door.source"
 python3 tests/circuit_source.py "$work/door.source" "$work/door.circuit" || exit 1
-[ "$(blocks session)" -eq 2 ] || wrong "$page has not two sessions"
+[ "$(blocks terminal)" -eq 2 ] || wrong "$page has not two dialogues"
 for k in 1 2; do
-    block session $k >"$work/session"
-    [ "$(head -n 1 "$work/session")" = "\$ $gateway door.circuit" ] || wrong "$page: session $k does not begin with the program"
-    sed -n 's/^> //p' "$work/session" | in_work $gateway door.circuit >"$work/printed" 2>&1
-    sed '1d; /^> /d' "$work/session" | diff - "$work/printed" || wrong "$page: in session $k the gateway program prints something else"
+    block terminal $k >"$work/dialogue"
+    [ "$(head -n 1 "$work/dialogue")" = "\$ $gateway door.circuit" ] || wrong "$page: dialogue $k does not begin with the program"
+    sed -n 's/^> //p' "$work/dialogue" | in_work $gateway door.circuit >"$work/printed" 2>&1
+    sed '1d; /^> /d' "$work/dialogue" | diff - "$work/printed" || wrong "$page: in dialogue $k the gateway program prints something else"
 done
 
 { block refusal 1 | head -n 1 && in_work $gateway own_block.circuit 2>&1 </dev/null; } >"$work/printed"
@@ -138,13 +138,13 @@ echo help | run $gateway "$work/door.circuit" | sed 1d >"$work/help"
 [ -s "$work/help" ] || wrong "help tells no command"
 while read -r command _; do
     grep -q "^| \`$command[ \`]" $page || wrong "$page has no row for the command $command"
-    grep -q "^> $command\b" $page || wrong "$page shows no $command in a session"
+    grep -q "^> $command\b" $page || wrong "$page shows no $command in a dialogue"
 done <"$work/help"
 
-# the trace of the session, played again, by the independent program too
+# the trace of the dialogue, played again, by the independent program too
 build_by_oracle "$work/by_oracle" $replay_sources
 for player in "$replay" "$work/by_oracle"; do
     run "$player" <"$work/door.trace" | diff - <(grep '^<' "$work/door.trace") >"$work/differs" ||
-        { cut -c1-200 "$work/differs" && wrong "the session's trace is played otherwise by ${player##*/}"; }
+        { cut -c1-200 "$work/differs" && wrong "the dialogue's trace is played otherwise by ${player##*/}"; }
 done
-echo "example: $page, 2 sessions, $(wc -l <"$work/help") commands, a trace of $(grep -c '^<' "$work/door.trace") answers"
+echo "example: $page, 2 dialogues, $(wc -l <"$work/help") commands, a trace of $(grep -c '^<' "$work/door.trace") answers"

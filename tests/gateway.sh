@@ -83,7 +83,7 @@ complains 2 '  Refusal 1 at byte 0: ' empty
 complains 2 'The bytes end here, after 0 of them.' empty
 echo "gateway: $refused refused circuits, each with number, place, bytes and what to do"
 
-# ---- a session, worked out by hand: each command, a scan in turns, a look between two blocks
+# ---- a dialogue, worked out by hand: each command, a scan in turns, a look between two blocks
 cat >"$work/yard.source" <<'END'
 block press AND_edge          I1
 block lane  off_delay         retentive Trg=press R=!I2 T=3.00s
@@ -189,7 +189,7 @@ says 0 yard --turn 2 --script yard.script </dev/null
 says 0 yard --turn 2 <"$work/yard.script"
 sed 's/$/\r/' "$work/yard.script" >"$work/yard.crlf"
 says 0 yard --turn 2 --script yard.crlf </dev/null
-echo "gateway: a session of $(grep -c '^[a-z]' "$work/yard.script") commands, as worked out by hand"
+echo "gateway: a dialogue of $(grep -c '^[a-z]' "$work/yard.script") commands, as worked out by hand"
 
 # ---- every bad command: told with its line, and nothing else happens
 cat >"$work/bad.script" <<'END'
@@ -375,7 +375,7 @@ run $gateway "$work/harbour" </dev/null >/dev/full 2>"$work/err"
 [ $? -eq 2 ] && grep -q 'standard output cannot be written' "$work/err" || { echo "gateway: no error where nothing can be printed" && exit 1; }
 echo "gateway: a full disk"
 
-# ---- a fault sent as a trace: the session again, with refused calls and a load, played by the player to the same answers
+# ---- a fault sent as a trace: the dialogue again, with refused calls and a load, played by the player to the same answers
 { printf 'trace yard.trace\n' && cat "$work/yard.script"; } >"$work/traced.script"
 sed -i '1a publish\nload yard.record\nrun 3' "$work/traced.script"
 (cd "$work" && run "$here/$gateway" yard --turn 2 --script traced.script >out 2>err)
@@ -384,7 +384,7 @@ run $replay <"$work/yard.trace" >"$work/answers" || exit 1
 grep '^<' "$work/yard.trace" | cmp - "$work/answers" || { echo "gateway: its trace is played otherwise" && exit 1; }
 made=$(grep -c '^> ' "$work/yard.trace") answers=$(wc -l <"$work/answers") loads=$(grep -c '^> rec ' "$work/yard.trace")
 [ "$loads" -eq 2 ] && [ "$made" -eq $((answers + loads)) ] && grep -q '^< 22 ' "$work/answers" || exit 1
-# what the session published is what its trace says: Q1 is the 29th word from the end, AQ1 the 9th
+# what the dialogue published is what its trace says: Q1 is the 29th word from the end, AQ1 the 9th
 [ "$(awk '$2 == 0 && last == "publish" { print $(NF - 27), $(NF - 7) } /^>/ { last = $2 }' "$work/yard.trace" | uniq | tr '\n' ' ')" = '1 700 0 -5 ' ] || exit 1
 echo "gateway: a trace of $answers answers, played again"
 
@@ -418,13 +418,13 @@ until(b"\0")
 sys.stdout.write(seen.decode().replace("\r", ""))
 sys.exit(os.waitstatus_to_exitcode(os.waitpid(child, 0)[1]))
 END
-session='latch 1;run 2;look;open;quit'
-NO_COLOR= TERM=xterm python3 "$work/terminal.py" "$session" "${runner[@]}" $gateway "$work/yard" >"$work/seen"
+dialogue='latch 1;run 2;look;open;quit'
+NO_COLOR= TERM=xterm python3 "$work/terminal.py" "$dialogue" "${runner[@]}" $gateway "$work/yard" >"$work/seen"
 [ $? -eq 1 ] && grep -q '^gateway> look' "$work/seen" && grep -q $'^\033\\[1;33m====>.*\033\\[0m$' "$work/seen" && grep -q $'^\033\\[2m    3  bits' "$work/seen" &&
     grep -q '^gateway: there is no command `open`' "$work/seen" || { echo "gateway: at a terminal:" && cat -v "$work/seen" && exit 1; }
-NO_COLOR=1 TERM=xterm python3 "$work/terminal.py" "$session" "${runner[@]}" $gateway "$work/yard" >"$work/seen"
+NO_COLOR=1 TERM=xterm python3 "$work/terminal.py" "$dialogue" "${runner[@]}" $gateway "$work/yard" >"$work/seen"
 grep -q '^====>' "$work/seen" && ! grep -q $'\033' "$work/seen" || { echo "gateway: colour that is not wanted" && exit 1; }
-tr ';' '\n' <<<"$session" | run $gateway "$work/yard" >"$work/seen" 2>&1
+tr ';' '\n' <<<"$dialogue" | run $gateway "$work/yard" >"$work/seen" 2>&1
 ! grep -q -e $'\033' -e 'gateway> ' "$work/seen" && grep -q '^gateway: line 4: ' "$work/seen" || { echo "gateway: in a pipe:" && cat -v "$work/seen" && exit 1; }
 echo "gateway: at a terminal and in a pipe"
 run $gateway --help | grep -q '^usage: gateway CIRCUIT' || exit 1

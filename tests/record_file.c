@@ -157,7 +157,8 @@ static uint32_t crc_of(const uint8_t *bytes, size_t length) {
 
 /* ---- saving and loading, right or wrong */
 
-typedef bool saves(const char *name, const uint8_t *circuit, size_t circuit_len, const int32_t *record, size_t record_len, message *why);
+typedef bool saves(const char *name, const uint8_t *circuit, size_t circuit_len, const int32_t *record, size_t record_len,
+                   message *why);
 typedef bool loads(const char *name, const uint8_t *circuit, size_t circuit_len, int32_t *record, size_t record_len, message *why);
 
 /* Writes where the file stands, in two parts. */
@@ -181,19 +182,22 @@ static bool save_nothing(const char *name, const uint8_t *circuit, size_t circui
     return is_there(name);
 }
 
-static bool load_anything(const char *name, const uint8_t *circuit, size_t circuit_len, int32_t *record, size_t record_len, message *why) {
+static bool load_anything(const char *name, const uint8_t *circuit, size_t circuit_len, int32_t *record, size_t record_len,
+                          message *why) {
     load_record(name, circuit, circuit_len, record, record_len, why);
     return true;
 }
 
-static bool load_and_touch(const char *name, const uint8_t *circuit, size_t circuit_len, int32_t *record, size_t record_len, message *why) {
+static bool load_and_touch(const char *name, const uint8_t *circuit, size_t circuit_len, int32_t *record, size_t record_len,
+                           message *why) {
     const bool loaded = load_record(name, circuit, circuit_len, record, record_len, why);
     record[SERIFDOVE_E] += !loaded;
     return loaded;
 }
 
 /* Judges no soundness: of an unsound record it gives a sound one's answer. */
-static bool load_unsound(const char *name, const uint8_t *circuit, size_t circuit_len, int32_t *record, size_t record_len, message *why) {
+static bool load_unsound(const char *name, const uint8_t *circuit, size_t circuit_len, int32_t *record, size_t record_len,
+                         message *why) {
     return load_record(name, circuit, circuit_len, record, record_len, why) || strstr(why->text, "not sound") != NULL;
 }
 
@@ -423,19 +427,68 @@ static void other_frames(void) {
 }
 
 static const char *const malformed_circuits[] = {
-    "circuit", "circuit ", "circuit 1", "circuit 1 ", "circuit 1 0000000", "circuit 1 000000000", "circuit 1 0000000A",
-    "circuit 1 0000000g", "circuit  1 00000000", "circuit 1  00000000", "circuit 1 00000000 ", "circuit 1 00000000 1",
-    "circuit 01 00000000", "circuit -1 00000000", "circuit -0 00000000", "circuit +1 00000000", "circuit 4294967296 00000000",
-    "circuit 99999999999999999999 00000000", "circuit x 00000000", " circuit 1 00000000", "Circuit 1 00000000",
-    "circuit 1 00000000\r", "circuit 1@00000000", "", "record 0",
+    "circuit",
+    "circuit ",
+    "circuit 1",
+    "circuit 1 ",
+    "circuit 1 0000000",
+    "circuit 1 000000000",
+    "circuit 1 0000000A",
+    "circuit 1 0000000g",
+    "circuit  1 00000000",
+    "circuit 1  00000000",
+    "circuit 1 00000000 ",
+    "circuit 1 00000000 1",
+    "circuit 01 00000000",
+    "circuit -1 00000000",
+    "circuit -0 00000000",
+    "circuit +1 00000000",
+    "circuit 4294967296 00000000",
+    "circuit 99999999999999999999 00000000",
+    "circuit x 00000000",
+    " circuit 1 00000000",
+    "Circuit 1 00000000",
+    "circuit 1 00000000\r",
+    "circuit 1@00000000",
+    "",
+    "record 0",
 };
 
 static const char *const malformed_records[] = {
-    "record", "record ", "record x", "record -1", "record +1 1", "record 1", "record 2 1", "record 0 1", "record 1 1 1",
-    "record 1  1", "record 1 1 ", "record 1 1x", "record 1 -", "record 1 --1", "record 1 -0", "record 1 00", "record 1 01",
-    "record 1 0x1", "record 1 1.0", "record 1\t1", "record 1 2147483648", "record 1 -2147483649", "record 1 99999999999999999999",
-    "record 99999999999999999999 1", "record 4294967295 1", "record 1 1\r", "record 1 1@", " record 1 1", "Record 1 1", "",
-    "record 1 1\n", "record 1 1\nrecord 1 1", "record 0 ", "record 00",
+    "record",
+    "record ",
+    "record x",
+    "record -1",
+    "record +1 1",
+    "record 1",
+    "record 2 1",
+    "record 0 1",
+    "record 1 1 1",
+    "record 1  1",
+    "record 1 1 ",
+    "record 1 1x",
+    "record 1 -",
+    "record 1 --1",
+    "record 1 -0",
+    "record 1 00",
+    "record 1 01",
+    "record 1 0x1",
+    "record 1 1.0",
+    "record 1\t1",
+    "record 1 2147483648",
+    "record 1 -2147483649",
+    "record 1 99999999999999999999",
+    "record 99999999999999999999 1",
+    "record 4294967295 1",
+    "record 1 1\r",
+    "record 1 1@",
+    " record 1 1",
+    "Record 1 1",
+    "",
+    "record 1 1\n",
+    "record 1 1\nrecord 1 1",
+    "record 0 ",
+    "record 00",
 };
 
 static void malformed_lines(void) {
@@ -454,8 +507,8 @@ static void other_contents(void) {
     const size_t words = words_of(&made);
     refuse_forged("another circuit", "serifdove record 1\ncircuit %zu %08" PRIx32 "\n%s\n", made.length + 1,
                   crc_of(made.bytes, made.length), record_line);
-    refuse_forged("another circuit", "serifdove record 1\ncircuit %zu %08" PRIx32 "\n%s\n", made.length, ~crc_of(made.bytes, made.length),
-                  record_line);
+    refuse_forged("another circuit", "serifdove record 1\ncircuit %zu %08" PRIx32 "\n%s\n", made.length,
+                  ~crc_of(made.bytes, made.length), record_line);
     refuse_forged("another circuit", "serifdove record 1\ncircuit 0 00000000\nrecord 1 9\n");
     refuse_forged("the record of this circuit has", "serifdove record 1\n%s\nrecord 0\n", circuit_line);
     refuse_forged("the record of this circuit has", "serifdove record 1\n%s\nrecord %zu %s 0\n", circuit_line, words + 1, only_words);

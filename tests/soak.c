@@ -150,7 +150,8 @@ static void expect_outputs(const int32_t *before) {
         if (outputs[i] != before[i]) {
             const bool analog = i >= SERIFDOVE_AQ(1);
             snprintf(text + strlen(text), LINE - strlen(text), "%s%sQ%zu %" PRId32 " -> %" PRId32,
-                     changed ? ", " : "; changed: ", analog ? "A" : "", analog ? i - SERIFDOVE_AQ(1) + 1 : i + 1, before[i], outputs[i]);
+                     changed ? ", " : "; changed: ", analog ? "A" : "", analog ? i - SERIFDOVE_AQ(1) + 1 : i + 1, before[i],
+                     outputs[i]);
             changed = true;
         }
     expect(WHOLE, "%s%s", text, changed ? "" : "; nothing changed");
@@ -276,10 +277,43 @@ static void do_load(unsigned file) {
 
 /* Refused in any phase. */
 static const char *const bad_commands[] = {
-    "frobnicate", "set I25 1", "set I1 2", "set AI1 1001", "set I1", "set AI9 1", "latch 65536", "latch x", "latch 1 2", "latch -1",
-    "run -1", "run 4294967296", "run x", "run 1 1", "publish now", "warm now", "cold now", "save", "load", "load missing.record",
-    "load .", "save .", "save missing/x", "save circuit", "load circuit", "load torn.record", "look 0", "look 401", "turn 0",
-    "turn", "help frobnicate", "trace", "scan x", "scan 1 0", "quit now", "Cold", "\x01",
+    "frobnicate",
+    "set I25 1",
+    "set I1 2",
+    "set AI1 1001",
+    "set I1",
+    "set AI9 1",
+    "latch 65536",
+    "latch x",
+    "latch 1 2",
+    "latch -1",
+    "run -1",
+    "run 4294967296",
+    "run x",
+    "run 1 1",
+    "publish now",
+    "warm now",
+    "cold now",
+    "save",
+    "load",
+    "load missing.record",
+    "load .",
+    "save .",
+    "save missing/x",
+    "save circuit",
+    "load circuit",
+    "load torn.record",
+    "look 0",
+    "look 401",
+    "turn 0",
+    "turn",
+    "help frobnicate",
+    "trace",
+    "scan x",
+    "scan 1 0",
+    "quit now",
+    "Cold",
+    "\x01",
 };
 
 static void do_bad(chance *with) {
@@ -647,8 +681,8 @@ static void soak(double minutes, char **gateway) {
     printf("soak: seed %" PRIu64 ": %" PRIu64 " circuits, %" PRIu64 " lives, %" PRIu64 " commands given, %" PRIu64
            " of them to be refused, %" PRIu64 " lines as expected\n",
            seed, counted.circuits, counted.lives, counted.commands, counted.refused, counted.lines);
-    printf("soak: %" PRIu64 " saves told, %" PRIu64 " kills, %" PRIu64 " of them inside a save, %" PRIu64 " loads told\n", counted.saves,
-           counted.kills, counted.inside, counted.loads);
+    printf("soak: %" PRIu64 " saves told, %" PRIu64 " kills, %" PRIu64 " of them inside a save, %" PRIu64 " loads told\n",
+           counted.saves, counted.kills, counted.inside, counted.loads);
     if (counted.inside == 0 && told_wrong == NULL)
         mismatch("no kill fell inside a save");
 }

@@ -198,8 +198,8 @@ static int compare_plays(uint64_t seed, uint64_t count) {
         begin_plays(&with, one_circuit);
         const unsigned call = first_difference();
         if (call != 0) {
-            printf("threads: mismatch: seed %" PRIu64 ", pair %" PRIu64 " on %s: call %u answers or leaves other than alone\n", seed, pair,
-                   one_circuit ? "one circuit" : "two circuits", call);
+            printf("threads: mismatch: seed %" PRIu64 ", pair %" PRIu64 " on %s: call %u answers or leaves other than alone\n", seed,
+                   pair, one_circuit ? "one circuit" : "two circuits", call);
             return 1;
         }
         for (unsigned i = 0; i < THREADS; i++)
