@@ -279,21 +279,27 @@ static bool is_coloured(void) {
     return isatty(STDOUT_FILENO) && (without == NULL || *without == 0) && terminal != NULL && strcmp(terminal, "dumb") != 0;
 }
 
-static void look_at(char *line) {
+/* The word as a block's number, from the least on; else it is told. */
+static bool read_block(const char *word, uint64_t least, uint64_t *number) {
     const unsigned n = gateway.circuit.n;
+    if (read_number(word, least, n, number))
+        return true;
+    if (n == 0)
+        refuse("`%s` is no block: this circuit has none", word);
+    else
+        refuse("`%s` is no block; expected is %" PRIu64 " to %u", word, least, n);
+    return false;
+}
+
+static void look_at(char *line) {
     const char *first_word = next_word(&line), *last_word = next_word(&line);
-    uint64_t first = 1, last = n;
-    if (first_word != NULL && !read_number(first_word, 1, n, &first)) {
-        refuse("`%s` is no block; expected is 1 to %u", first_word, n);
-        return;
-    }
-    if (first_word != NULL)
+    uint64_t first = 1, last = gateway.circuit.n;
+    if (first_word != NULL) {
+        if (!read_block(first_word, 1, &first))
+            return;
         last = first;
-    if (last_word != NULL && !read_number(last_word, first, n, &last)) {
-        refuse("`%s` is no last block; expected is %" PRIu64 " to %u", last_word, first, n);
-        return;
     }
-    if (!is_end(line))
+    if ((last_word != NULL && !read_block(last_word, first, &last)) || !is_end(line))
         return;
     const sight at = {&gateway.circuit, gateway.record, gateway.outputs, gateway.published, is_coloured()};
     look(stdout, &at, (unsigned)first, (unsigned)last);

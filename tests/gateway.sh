@@ -267,7 +267,7 @@ gateway: line 15: `` is no number of blocks; expected is 1 to 4294967295, or all
 gateway: line 16: `x` is too much on this line
 gateway: line 17: `6` is no block; expected is 1 to 5
 gateway: line 18: `0` is no block; expected is 1 to 5
-gateway: line 19: `3` is no last block; expected is 4 to 5
+gateway: line 19: `3` is no block; expected is 4 to 5
 gateway: line 20: `3` is too much on this line
 gateway: line 21: `0` is no number of scans; expected is 1 to 1000000
 gateway: line 22: `3` is too much on this line
@@ -289,6 +289,25 @@ gateway: line 40: `now` is too much on this line
 END
 says 1 yard --script bad.script </dev/null
 echo "gateway: $(wc -l <"$work/complaints") bad commands, each told"
+
+# ---- a circuit without blocks
+bytes 0100030100007f0000 none
+cat >"$work/expected" <<'END'
+circuit: none, 9 bytes, 0 blocks, 0 rows; cold start
+scan 1 of 1: e 1 (0.01 s), 1 turn; all outputs 0; nothing changed
+latch: e 2 (0.02 s); all inputs 0
+phase    in a scan, 0 of 0 blocks done, e 2 (0.02 s)
+inputs   all 0 (as latched)
+M        all 0 (change at publish)
+AM       all 0 (change at publish)
+outputs  all 0 (as published)
+block  label             kind                  inputs  output
+====>  the scan stands here, behind block 0: all are done, publish closes it
+publish: all outputs 0; nothing changed
+END
+printf 'gateway: line 4: `1` is no block: this circuit has none\n' >"$work/complaints"
+printf 'scan 1\nlatch 2\nlook\nlook 1\npublish\n' >"$work/none.script"
+says 1 none --script none.script </dev/null
 
 # ---- lines that are no text
 { head -c 4097 /dev/zero | tr '\0' x && printf '\nru\0n\n#%4095s\nset' '' ; } >"$work/lines.script"
