@@ -140,14 +140,15 @@ static void print_block(FILE *to, const sight *at, unsigned number, int width) {
             memory.text, dim ? "\033[0m" : "");
 }
 
-/* Where the scan stands: behind the blocks that are done. */
+/* Where the scan stands: between the blocks that are done and those to go. */
 static void print_mark(FILE *to, const sight *at) {
     const int32_t done = at->record[SERIFDOVE_DONE], to_go = (int32_t)at->circuit->n - done;
-    fprintf(to, "%s====>  the scan stands here, behind block %" PRId32 ": ", at->coloured ? "\033[1;33m" : "", done);
-    if (to_go > 0)
-        fprintf(to, "%" PRId32 " done, %" PRId32 " to go, which show the words of the last scan", done, to_go);
+    fprintf(to, "%s====>  the scan stands here", at->coloured ? "\033[1;33m" : "");
+    if (to_go == 0)
+        fprintf(to, ": all are done, publish closes it");
     else
-        fprintf(to, "all are done, publish closes it");
+        fprintf(to, ", before block %" PRId32 ": %" PRId32 " done, %" PRId32 " to go, which show the words of the last scan", done + 1,
+                done, to_go);
     fprintf(to, "%s\n", at->coloured ? "\033[0m" : "");
 }
 

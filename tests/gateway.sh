@@ -139,7 +139,7 @@ block  label             kind                  inputs                       outp
     1  press             AND edge              I1 1, - 1, - 1, - 1               1  remembered 1
     2  lane              off-delay             Trg B1 1, R !I2 0                 1  retentive; remembered 1; Ta 0.00 s of 3.00 s
     3  bits              shift register        In I1 1, Trg I2 1, Dir lo 0       1  remembered 1; bits 8 to 1: 00000001; index 1, bit 1
-====>  the scan stands here, behind block 3: 3 done, 2 to go, which show the words of the last scan
+====>  the scan stands here, before block 4: 3 done, 2 to go, which show the words of the last scan
     4  level             threshold trigger     Ax AI1 10                         0  A -0.33, B 10, On 5, Off 4
     5  a\x5cb,\xc3\xbc   multiplexer           En hi 1, S1 B2 1, S2 - 0          0  V1 -5, V2 0, V3 700, V4 9
 run: 2 blocks worked out, 0 to go
@@ -178,7 +178,7 @@ AM       all 0 (change at publish)
 outputs  AQ1 -5 (as published)
 block  label             kind                  inputs                    output
     5  a\x5cb,\xc3\xbc   multiplexer           En hi 1, S1 B2 0, S2 - 0      -5  V1 -5, V2 0, V3 700, V4 9
-====>  the scan stands here, behind block 5: all are done, publish closes it
+====>  the scan stands here: all are done, publish closes it
 cold: begun anew; the scan that was open is given up, its outputs were not published
 load: yard.record, waiting
 quit                   ends; so does the end of input
@@ -302,7 +302,7 @@ M        all 0 (change at publish)
 AM       all 0 (change at publish)
 outputs  all 0 (as published)
 block  label             kind                  inputs  output
-====>  the scan stands here, behind block 0: all are done, publish closes it
+====>  the scan stands here: all are done, publish closes it
 publish: all outputs 0; nothing changed
 END
 printf 'gateway: line 4: `1` is no block: this circuit has none\n' >"$work/complaints"
