@@ -14,6 +14,7 @@ bool open_box(box *b, uint8_t *bytes, size_t length) {
     b->bytes = bytes;
     b->published = false;
     b->trace = NULL;
+    b->trace_error = 0;
     lay_out(&b->circuit, bytes, length);
     b->record_len = SERIFDOVE_RECORD_WORDS(b->circuit.n);
     b->record = calloc(b->record_len, sizeof *b->record);
@@ -31,11 +32,17 @@ unsigned blocks_to_go(const box *b) { return b->circuit.n - (unsigned)b->record[
 
 /* ---- the calls */
 
+/* Has what was written of the trace in its file, whenever the process ends. */
+static void flush_trace(box *b) {
+    if (fflush(b->trace) != 0 && b->trace_error == 0)
+        b->trace_error = errno;
+}
+
 /* What the call answered goes to the trace. */
-static serifdove_answer traced(const box *b, serifdove_answer answer) {
+static serifdove_answer traced(box *b, serifdove_answer answer) {
     if (b->trace != NULL) {
         trace_answer(b->trace, answer, b->record, b->record_len, b->outputs, SERIFDOVE_OUTPUT_WORD_COUNT);
-        fflush(b->trace);
+        flush_trace(b);
     }
     return answer;
 }
@@ -87,30 +94,33 @@ static void trace_lent(FILE *to, const char *head, const int32_t *words, size_t 
 bool load(box *b, const char *path, message *why) {
     if (!load_record(path, b->bytes, b->circuit.length, b->record, b->record_len, why))
         return false;
-    if (b->trace != NULL)
+    if (b->trace != NULL) {
         trace_lent(b->trace, "> rec", b->record, b->record_len);
+        flush_trace(b);
+    }
     return true;
 }
 
 bool begin_trace(box *b, const char *path, message *why) {
     FILE *to = fopen(path, "wx");
     if (to == NULL)
-        return errno == EEXIST
-                   ? fail(why, "%s is there already and is not replaced: give the trace another name", path)
-                   : fail(why, "%s cannot be made: %s; a trace needs the name of a file that is not there yet", path, strerror(errno));
+        return errno == EEXIST ? fail(why, "%s is there already and is not replaced: give the trace another name", shown(path).text)
+                               : fail(why, "%s cannot be made: %s; a trace needs the name of a file that is not there yet",
+                                      shown(path).text, strerror(errno));
     trace_circuit(to, b->bytes, b->circuit.length);
     trace_lent(to, "R", b->record, b->record_len);
     trace_lent(to, "O", b->outputs, SERIFDOVE_OUTPUT_WORD_COUNT);
     b->trace = to;
-    return fflush(to) == 0 || (end_trace(b, why), false);
+    b->trace_error = 0;
+    flush_trace(b);
+    return b->trace_error == 0 || end_trace(b, why);
 }
 
 bool end_trace(box *b, message *why) {
     FILE *to = b->trace;
     b->trace = NULL;
     fputs(".\n", to);
-    const bool failed = ferror(to) != 0;
-    if (fclose(to) != 0 || failed)
-        return fail(why, "the trace could not be written whole: %s", errno == 0 ? "the disk may be full" : strerror(errno));
-    return true;
+    if (fclose(to) != 0 && b->trace_error == 0)
+        b->trace_error = errno;
+    return b->trace_error == 0 || fail(why, "the trace could not be written whole: %s", strerror(b->trace_error));
 }

@@ -14,6 +14,7 @@ typedef struct {
     int32_t outputs[SERIFDOVE_OUTPUT_WORD_COUNT]; /* as published last */
     bool published;                               /* something was published yet */
     FILE *trace;                                  /* null: none is written */
+    int trace_error;                              /* why it could not be written; 0: it could */
 } box;
 
 /* Takes an accepted circuit, with a record of zeros and no outputs; false where there is no memory. The bytes are the box's from now

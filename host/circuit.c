@@ -5,28 +5,23 @@
 
 /* ---- the kinds */
 
-#define GATE                                                                                                                           \
-    { "1", "2", "3", "4" }
-#define SCALED(last)                                                                                                                   \
-    { "A", "B", "On", last }
-
 static const kind kinds[] = {
-    [1] = {"AND", GATE, {0}, false, true},
-    [2] = {"AND edge", GATE, {0}, true, true},
-    [3] = {"NAND", GATE, {0}, false, true},
-    [4] = {"NAND edge", GATE, {0}, true, true},
-    [5] = {"OR", GATE, {0}, false, false},
-    [6] = {"NOR", GATE, {0}, false, false},
-    [7] = {"XOR", {"1", "2"}, {0}, false, false},
-    [8] = {"NOT", {"1"}, {0}, false, false},
+    [1] = {"AND", {"", "", "", ""}, {0}, false, true},
+    [2] = {"AND edge", {"", "", "", ""}, {0}, true, true},
+    [3] = {"NAND", {"", "", "", ""}, {0}, false, true},
+    [4] = {"NAND edge", {"", "", "", ""}, {0}, true, true},
+    [5] = {"OR", {"", "", "", ""}, {0}, false, false},
+    [6] = {"NOR", {"", "", "", ""}, {0}, false, false},
+    [7] = {"XOR", {"", ""}, {0}, false, false},
+    [8] = {"NOT", {""}, {0}, false, false},
     [9] = {"on-delay", {"Trg"}, {"base", "T"}, true, false},
     [10] = {"off-delay", {"Trg", "R"}, {"base", "T"}, true, false},
     [11] = {"latching relay", {"S", "R"}, {0}, false, false},
     [12] = {"shift register", {"In", "Trg", "Dir"}, {"index", "bit"}, true, false},
-    [13] = {"threshold trigger", {"Ax"}, SCALED("Off"), false, false},
-    [14] = {"comparator", {"Ax", "Ay"}, SCALED("Off"), false, false},
+    [13] = {"threshold trigger", {"Ax"}, {"A", "B", "On", "Off"}, false, false},
+    [14] = {"comparator", {"Ax", "Ay"}, {"A", "B", "On", "Off"}, false, false},
     [15] = {"multiplexer", {"En", "S1", "S2"}, {"V1", "V2", "V3", "V4"}, false, false},
-    [16] = {"differential trigger", {"Ax"}, SCALED("Delta"), false, false},
+    [16] = {"differential trigger", {"Ax"}, {"A", "B", "On", "Delta"}, false, false},
 };
 
 const kind *kind_of(unsigned number) {
@@ -42,10 +37,20 @@ int64_t ticks_of(const block *of) {
 
 /* ---- reading the fields of an accepted circuit */
 
-enum { HEADER = 0x01, BLOCK = 0x10, LABEL = 0x20, ROW = 0x30 };
 enum { INVERTED = 0x80, RETENTIVE = 1, CONNECTOR_BYTES = 3, PARAMETER_BYTES = 4 };
 
+static size_t count_of(const char *const *names) {
+    size_t count = 0;
+    while (count < MOST_OF_A_BLOCK && names[count] != NULL)
+        count++;
+    return count;
+}
+
+size_t block_length(const kind *k) { return 2 + CONNECTOR_BYTES * count_of(k->inputs) + PARAMETER_BYTES * count_of(k->parameters); }
+
 static unsigned two_at(const uint8_t *at) { return (unsigned)at[0] << 8 | at[1]; }
+
+size_t content_length(const uint8_t *field) { return two_at(field + 1); }
 
 static int32_t four_at(const uint8_t *at) {
     const uint32_t bits = (uint32_t)two_at(at) << 16 | two_at(at + 2);
@@ -68,30 +73,18 @@ static void lay_out_block(block *to, const uint8_t *at) {
         to->parameters[i] = four_at(at);
 }
 
-static void lay_out_field(circuit *to, unsigned tag, const uint8_t *content, size_t length) {
-    switch (tag) {
-    case BLOCK:
-        lay_out_block(&to->block[++to->n], content);
-        break;
-    case LABEL:
-        to->block[to->n].label = content;
-        to->block[to->n].label_length = length;
-        break;
-    case ROW:
-        to->row[to->rows++] = (row){content[0], content[1], connector_at(content + 2)};
-        break;
-    default:
-        break;
-    }
-}
-
 void lay_out(circuit *to, const uint8_t *bytes, size_t length) {
-    enum { HEAD = 3 };
-    to->bytes = bytes;
     to->length = length;
     to->n = to->rows = 0;
-    for (size_t at = 0; at < length; at += HEAD + two_at(bytes + at + 1))
-        lay_out_field(to, bytes[at], bytes + at + HEAD, two_at(bytes + at + 1));
+    for (size_t at = 0; at < length; at += FIELD_HEAD + content_length(bytes + at))
+        if (bytes[at] == BLOCK_TAG) {
+            lay_out_block(&to->block[++to->n], bytes + at + FIELD_HEAD);
+        } else if (bytes[at] == LABEL_TAG) {
+            to->block[to->n].label = bytes + at + FIELD_HEAD;
+            to->block[to->n].label_length = content_length(bytes + at);
+        } else if (bytes[at] == ROW_TAG) {
+            to->rows++;
+        }
 }
 
 /* ---- connectors */
@@ -142,10 +135,9 @@ name connector_name(connector c) {
     return named(before[c.class][c.inverted], c.number);
 }
 
-name destination_name(unsigned class, unsigned number) {
-    static const char *const before[] = {"", "Q", "M", "AQ", "AM"};
-    return named(before[class], number);
-}
+name flag_name(size_t word) { return named("M", (unsigned)word + 1); }
+
+name analog_flag_name(size_t word) { return named("AM", (unsigned)word + 1); }
 
 name input_name(size_t word) {
     return word < DIGITAL_INPUTS ? named("I", (unsigned)word + 1) : named("AI", (unsigned)(word - DIGITAL_INPUTS) + 1);

@@ -10,8 +10,7 @@
 
 enum {
     MOST_CIRCUIT_BYTES = 65536, /* what a host reads; no accepted circuit is longer */
-    MOST_ROWS = 20 + 64 + 8 + 64,
-    MOST_OF_A_BLOCK = 4, /* inputs, parameters */
+    MOST_OF_A_BLOCK = 4,        /* inputs, parameters */
     ANALOG_INPUTS = 8,
     DIGITAL_INPUTS = SERIFDOVE_INPUT_WORD_COUNT - ANALOG_INPUTS,
     ANALOG_OUTPUTS = 8,
@@ -20,7 +19,13 @@ enum {
 };
 
 /* Kinds that are shown in a way of their own. */
-enum { ON_DELAY = 9, OFF_DELAY = 10, SHIFT_REGISTER = 12, MULTIPLEXER = 15 };
+enum { ON_DELAY = 9, OFF_DELAY = 10, SHIFT_REGISTER = 12 };
+
+/* The tags of fields, and the bytes of a field before its content. */
+enum { HEADER_TAG = 0x01, BLOCK_TAG = 0x10, LABEL_TAG = 0x20, ROW_TAG = 0x30, END_TAG = 0x7F, FIELD_HEAD = 3 };
+
+/* How many bytes of content the field has that begins here. */
+size_t content_length(const uint8_t *field);
 
 typedef struct {
     unsigned class; /* without the inversion */
@@ -38,19 +43,12 @@ typedef struct {
 } block;
 
 typedef struct {
-    unsigned class, number; /* the destination */
-    connector source;
-} row;
-
-typedef struct {
-    const uint8_t *bytes;
-    size_t length;
+    size_t length; /* of its bytes */
     unsigned n, rows;
     block block[SERIFDOVE_MOST_BLOCKS + 1]; /* by number, from 1 */
-    row row[MOST_ROWS];
 } circuit;
 
-/* A kind as people name it. Inputs and parameters that it has not are null. */
+/* A kind as people name it. Inputs and parameters that it has not are null; the inputs of a gate have empty names. */
 typedef struct {
     const char *name;
     const char *inputs[MOST_OF_A_BLOCK];
@@ -62,6 +60,9 @@ typedef struct {
 /* The kind with this number; null if there is none. */
 const kind *kind_of(unsigned number);
 bool is_delay(unsigned kind_number);
+
+/* How many bytes of content a block of this kind has. */
+size_t block_length(const kind *k);
 
 /* Lays out the circuit. serifdove_check accepts these bytes, which stay where they are as long as the layout is used. */
 void lay_out(circuit *to, const uint8_t *bytes, size_t length);
@@ -78,10 +79,11 @@ typedef struct {
     char text[16];
 } name;
 
-name connector_name(connector c);                       /* I3, !M5, B7, AI2, AM4, hi, lo, - */
-name destination_name(unsigned class, unsigned number); /* Q1, M5, AQ2, AM4 */
-name input_name(size_t word);                           /* of a word that latch reads */
-name output_name(size_t word);                          /* of a word that publish writes */
+name connector_name(connector c);   /* I3, !M5, B7, AI2, AM4, hi, lo, - */
+name flag_name(size_t word);        /* of M1 to M64, from 0 */
+name analog_flag_name(size_t word); /* of AM1 to AM64, from 0 */
+name input_name(size_t word);       /* of a word that latch reads */
+name output_name(size_t word);      /* of a word that publish writes */
 
 /* The label, its bytes that are not plain text as \xNN. */
 typedef struct {

@@ -338,7 +338,7 @@ static line_text block_text(unsigned k, const int32_t *before, const int32_t *af
 /* The `count` blocks behind those done. */
 static line_text blocks_text(unsigned done, unsigned count) {
     if (count == 0)
-        return text_of("no block");
+        return text_of("none");
     return count == 1 ? text_of("B%u", done + 1) : text_of("B%u-B%u", done + 1, done + count);
 }
 
@@ -356,7 +356,7 @@ static void tell_turn(unsigned done, unsigned count, const int32_t *before, cons
     if (column > INDENT + BLOCKS_WIDTH)
         return;
     move_to(INDENT + BLOCKS_WIDTH);
-    put(FAINT, "no change");
+    put(FAINT, count == 0 ? "an empty turn" : "no change");
 }
 
 /* ---- the printer: other work of the box */
@@ -661,7 +661,7 @@ static enum status play(const char *path) {
 }
 
 static fault fault_of(const char *text) {
-    fault f = YARD;
+    fault f = FAULTS - 1;
     while (f > NO_FAULT && strcmp(fault_names[f], text) != 0)
         f--;
     return f;
@@ -676,8 +676,7 @@ int main(int count, char **arguments) {
         fputs(usage, stderr);
         return CANNOT;
     }
-    const char *no_colour = getenv("NO_COLOR");
-    has_colour = isatty(STDOUT_FILENO) && (no_colour == NULL || *no_colour == 0);
+    has_colour = takes_colour();
     const enum status status = play(arguments[1]);
     close_box(&in_turns);
     close_box(&in_one_go);

@@ -18,17 +18,47 @@ bool fail(message *why, const char *format, ...) {
     return false;
 }
 
+/* Adds so many bytes of the word at the text's end. */
+static void add_shown(shown_text *to, const char *word, size_t count) {
+    size_t at = strlen(to->text);
+    for (size_t i = 0; i < count; i++) {
+        const unsigned char byte = (unsigned char)word[i];
+        at += (size_t)snprintf(to->text + at, sizeof to->text - at, byte < ' ' || byte == 0x7F ? "\\x%02x" : "%c", byte);
+    }
+}
+
+shown_text shown(const char *word) {
+    enum { PART = 48 }; /* a byte takes four characters at most, so two parts and dots between them have room */
+    shown_text text = {""};
+    const size_t length = strlen(word);
+    if (length <= 2 * PART) {
+        add_shown(&text, word, length);
+    } else {
+        add_shown(&text, word, PART);
+        add_shown(&text, "..", 2);
+        add_shown(&text, word + length - PART, PART);
+    }
+    return text;
+}
+
+bool takes_colour(void) {
+    const char *terminal = getenv("TERM"), *without = getenv("NO_COLOR");
+    return isatty(STDOUT_FILENO) && (without == NULL || *without == 0) && terminal != NULL && strcmp(terminal, "dumb") != 0;
+}
+
+const char *plural(size_t count) { return count == 1 ? "" : "s"; }
+
 /* Opens it, if it is a file: a folder or a device is not read. */
 static int open_file(const char *path, const char *what, message *why) {
     struct stat about;
     const int file = open(path, O_RDONLY | O_NONBLOCK | O_CLOEXEC);
     if (file < 0) {
-        fail(why, "%s cannot be opened: %s; a file with %s is expected", path, strerror(errno), what);
+        fail(why, "%s cannot be opened: %s; a file with %s is expected", shown(path).text, strerror(errno), what);
         return -1;
     }
     if (fstat(file, &about) != 0 || !S_ISREG(about.st_mode)) {
         close(file);
-        fail(why, "%s is not a file; a file with %s is expected", path, what);
+        fail(why, "%s is not a file; a file with %s is expected", shown(path).text, what);
         return -1;
     }
     return file;
@@ -60,8 +90,8 @@ bool read_file(const char *path, const char *what, size_t most, uint8_t **bytes,
     close(file);
     if (count < 0 || (size_t)count > most) {
         free(memory);
-        return count < 0 ? fail(why, "%s cannot be read: %s", path, strerror(error))
-                         : fail(why, "%s is too long: %s has at most %zu bytes", path, what, most);
+        return count < 0 ? fail(why, "%s cannot be read: %s", shown(path).text, strerror(error))
+                         : fail(why, "%s is too long: %s has at most %zu bytes", shown(path).text, what, most);
     }
     *bytes = memory;
     *length = (size_t)count;

@@ -1,4 +1,4 @@
-/* What the host programs share about files: a message that says why something could not be done, and reading a file whole. */
+/* What the host programs share: a message that says why something could not be done, how words are shown, and reading a file whole. */
 #ifndef FILES_H
 #define FILES_H
 
@@ -8,11 +8,23 @@
 
 /* Why something could not be done, in words, without a line end. */
 typedef struct {
-    char text[512];
+    char text[1024];
 } message;
 
 /* Writes the message as printf does, cut where it is too long; gives false, so that `return fail(..)` tells a caller both. */
 bool fail(message *why, const char *format, ...) __attribute__((format(printf, 2, 3)));
+
+/* A word or a file's name as it is shown to people: control bytes as \xNN, the middle left out where it is long. */
+typedef struct {
+    char text[400];
+} shown_text;
+shown_text shown(const char *word);
+
+/* Whether standard output is a terminal that takes colour, and the user has not said otherwise (NO_COLOR). */
+bool takes_colour(void);
+
+/* The ending of a noun behind this number: nothing for 1, else s. */
+const char *plural(size_t count);
 
 /* Reads the whole file, at most so many bytes; `what` names what it should be, for the message. The caller frees the bytes.
    On false nothing is to be freed, and the message says what was wrong and what is expected. */

@@ -12,12 +12,13 @@
 #include <stdarg.h>
 #include <stdlib.h>
 #include <string.h>
+#include <sys/stat.h>
 #include <time.h>
 #include <unistd.h>
 
 static const char usage[] = "usage: gateway CIRCUIT [--turn N] [--script FILE]\n"
                             "Judges the circuit in the file CIRCUIT, begins with a cold start, and takes commands, one a line.\n"
-                            "  --turn N       a turn works out N blocks, 1 to 4294967295; without it, all\n"
+                            "  --turn N       a turn works out N blocks, 1 to 4294967295, or all; without it, all\n"
                             "  --script FILE  takes the commands from FILE instead of standard input\n"
                             "The command `help` tells the commands. Status 0: all were carried out; 1: some were not;\n"
                             "2: it could not begin, or its output cannot be written.\n";
@@ -31,6 +32,7 @@ static const char *script;         /* null: standard input */
 static size_t line_number;
 static bool at_a_terminal; /* somebody types the commands */
 static bool some_refused, is_over;
+static size_t current; /* the command that is carried out */
 
 /* ---- messages */
 
@@ -55,7 +57,7 @@ static void refuse_phase(const char *call) {
     if (!is_in_scan(&gateway))
         refuse("%s is refused (22): no scan is open; latch opens one", call);
     else if (to_go > 0)
-        refuse("%s is refused (22): a scan is open with %u block%s to go; run, then publish", call, to_go, to_go == 1 ? "" : "s");
+        refuse("%s is refused (22): a scan is open with %u block%s to go; run, then publish", call, to_go, plural(to_go));
     else
         refuse("%s is refused (22): a scan is open and worked out; publish closes it", call);
 }
@@ -69,12 +71,22 @@ static bool is_accepted(const char *call, serifdove_answer answer) {
     return answer.number == SERIFDOVE_ACCEPTED;
 }
 
+/* The form of the command that is carried out: "look [FIRST [LAST]]". */
+static shown_text form_of_current(void);
+
 /* True if nothing is left of the line; else it is told. */
 static bool is_end(char *line) {
     const char *word = next_word(&line);
     if (word != NULL)
-        refuse("`%s` is too much on this line", word);
+        refuse("`%s` is too much; expected is: %s", shown(word).text, form_of_current().text);
     return word == NULL;
+}
+
+/* True if there is a word; else it is told. */
+static bool is_there(const char *word) {
+    if (word == NULL)
+        refuse("a word is missing; expected is: %s", form_of_current().text);
+    return word != NULL;
 }
 
 /* ---- inputs */
@@ -86,12 +98,14 @@ static bool set_one(int32_t *inputs, const char *input, const char *value) {
     size_t place;
     uint64_t number;
     if (!read_input(input, &place)) {
-        refuse("`%s` is no input; expected is I1 to I%d or AI1 to AI%d", input, DIGITAL_INPUTS, ANALOG_INPUTS);
+        refuse("`%s` is no input; expected is I1 to I%d or AI1 to AI%d", shown(input).text, DIGITAL_INPUTS, ANALOG_INPUTS);
         return false;
     }
     const bool is_digital = place < DIGITAL_INPUTS;
-    if (value == NULL || !read_number(value, 0, is_digital ? 1 : 1000, &number)) {
-        refuse("`%s` is no value of %s; expected is %s", value == NULL ? "" : value, input, is_digital ? "0 or 1" : "0 to 1000");
+    if (!is_there(value))
+        return false;
+    if (!read_number(value, 0, is_digital ? 1 : 1000, &number)) {
+        refuse("`%s` is no value of %s; expected is %s", shown(value).text, input, is_digital ? "0 or 1" : "0 to 1000");
         return false;
     }
     inputs[place] = (int32_t)number;
@@ -101,11 +115,13 @@ static bool set_one(int32_t *inputs, const char *input, const char *value) {
 static void set_inputs(char *line) {
     int32_t inputs[SERIFDOVE_INPUT_WORD_COUNT];
     memcpy(inputs, gateway.inputs, sizeof inputs);
-    for (char *equals = line; (equals = strchr(equals, '=')) != NULL;)
-        *equals = ' ';
-    for (const char *input; (input = next_word(&line)) != NULL;)
-        if (!set_one(inputs, input, next_word(&line)))
+    for (char *input; (input = next_word(&line)) != NULL;) {
+        char *equals = strchr(input, '=');
+        if (equals != NULL)
+            *equals++ = 0;
+        if (!set_one(inputs, input, equals != NULL ? equals : next_word(&line)))
             return;
+    }
     memcpy(gateway.inputs, inputs, sizeof inputs);
     printf("set: ");
     print_inputs();
@@ -146,8 +162,12 @@ static bool read_elapsed(const char *word, elapsed *time) {
         *time = by_the_clock(now);
         return true;
     }
-    if (!read_time(word, &ticks) || ticks > GREATEST_E) {
-        refuse("`%s` is no time for latch; expected is 0 to %d ticks of 10 ms, such as 50, 500ms, 2.5s or 3min", word, GREATEST_E);
+    if (!read_time(word, &ticks)) {
+        refuse("`%s` is no time; expected are whole ticks of 10 ms, such as 50, 500ms, 2.5s or 3min", shown(word).text);
+        return false;
+    }
+    if (ticks > GREATEST_E) {
+        refuse("`%s` is too long for one latch; expected is at most %d ticks, which are 655.35s", shown(word).text, GREATEST_E);
         return false;
     }
     *time = (elapsed){(int32_t)ticks, now, 0};
@@ -179,9 +199,8 @@ static void open_scan(char *line) {
 /* The word as a number of blocks, or `all`; else it is told. */
 static bool read_blocks(const char *word, uint64_t least, uint32_t *blocks) {
     uint64_t number = UINT32_MAX;
-    if (word == NULL || (strcmp(word, "all") != 0 && !read_number(word, least, UINT32_MAX, &number))) {
-        refuse("`%s` is no number of blocks; expected is %" PRIu64 " to %" PRIu32 ", or all", word == NULL ? "" : word, least,
-               UINT32_MAX);
+    if (strcmp(word, "all") != 0 && !read_number(word, least, UINT32_MAX, &number)) {
+        refuse("`%s` is no number of blocks; expected is %" PRIu64 " to %" PRIu32 ", or all", shown(word).text, least, UINT32_MAX);
         return false;
     }
     *blocks = (uint32_t)number;
@@ -195,7 +214,7 @@ static void run_blocks(char *line) {
         return;
     const serifdove_answer answer = run(&gateway, c);
     if (is_accepted("run", answer))
-        printf("run: %zu block%s worked out, %zu to go\n", answer.first, answer.first == 1 ? "" : "s", answer.second);
+        printf("run: %zu block%s worked out, %zu to go\n", answer.first, plural(answer.first), answer.second);
 }
 
 /* "Q1 1; changed: Q1 0 -> 1", with the outputs as they were. */
@@ -243,7 +262,7 @@ static bool one_scan(const char *word, uint64_t i, uint64_t count) {
         return false;
     if (i == count || memcmp(before, gateway.outputs, sizeof before) != 0) {
         printf("scan %" PRIu64 " of %" PRIu64 ": e %" PRId32 " (%s), %zu turn%s; ", i, count, time.e, time_of(time.e).text, turns,
-               turns == 1 ? "" : "s");
+               plural(turns));
         print_outputs(before);
     }
     return true;
@@ -253,7 +272,7 @@ static void whole_scans(char *line) {
     const char *word = next_word(&line), *times = next_word(&line);
     uint64_t count = 1;
     if (times != NULL && !read_number(times, 1, MOST_SCANS, &count)) {
-        refuse("`%s` is no number of scans; expected is 1 to %d", times, MOST_SCANS);
+        refuse("`%s` is no number of scans; expected is 1 to %d", shown(times).text, MOST_SCANS);
         return;
     }
     bool goes_on = is_end(line);
@@ -262,22 +281,18 @@ static void whole_scans(char *line) {
 }
 
 static void set_turn(char *line) {
+    const char *word = next_word(&line);
     uint32_t blocks;
-    if (!read_blocks(next_word(&line), 1, &blocks) || !is_end(line))
+    if (!is_there(word) || !read_blocks(word, 1, &blocks) || !is_end(line))
         return;
     turn = blocks;
     if (turn == UINT32_MAX)
         printf("turn: all blocks\n");
     else
-        printf("turn: %" PRIu32 " block%s\n", turn, turn == 1 ? "" : "s");
+        printf("turn: %" PRIu32 " block%s\n", turn, plural(turn));
 }
 
 /* ---- looking, starting */
-
-static bool is_coloured(void) {
-    const char *terminal = getenv("TERM"), *without = getenv("NO_COLOR");
-    return isatty(STDOUT_FILENO) && (without == NULL || *without == 0) && terminal != NULL && strcmp(terminal, "dumb") != 0;
-}
 
 /* The word as a block's number, from the least on; else it is told. */
 static bool read_block(const char *word, uint64_t least, uint64_t *number) {
@@ -285,9 +300,9 @@ static bool read_block(const char *word, uint64_t least, uint64_t *number) {
     if (read_number(word, least, n, number))
         return true;
     if (n == 0)
-        refuse("`%s` is no block: this circuit has none", word);
+        refuse("`%s` is no block: this circuit has none", shown(word).text);
     else
-        refuse("`%s` is no block; expected is %" PRIu64 " to %u", word, least, n);
+        refuse("`%s` is no block; expected is %" PRIu64 " to %u", shown(word).text, least, n);
     return false;
 }
 
@@ -301,7 +316,7 @@ static void look_at(char *line) {
     }
     if ((last_word != NULL && !read_block(last_word, first, &last)) || !is_end(line))
         return;
-    const sight at = {&gateway.circuit, gateway.record, gateway.outputs, gateway.published, is_coloured()};
+    const sight at = {&gateway.circuit, gateway.record, gateway.outputs, gateway.published, takes_colour()};
     look(stdout, &at, (unsigned)first, (unsigned)last);
 }
 
@@ -321,26 +336,24 @@ static void start_warm(char *line) {
 /* ---- files */
 
 /* The file's name, which is the rest of the line; else it is told. */
-static char *file_name(const char *command, char *line) {
-    char *name = whole_rest(line);
-    if (name == NULL)
-        refuse("%s needs the name of a file: %s FILE", command, command);
-    return name;
+static char *file_name(char *line) {
+    char *path = whole_rest(line);
+    return is_there(path) ? path : NULL;
 }
 
 static void save_file(char *line) {
-    const char *path = file_name("save", line);
+    const char *path = file_name(line);
     message why;
     if (path == NULL)
         return;
     if (save_record(path, gateway.bytes, gateway.circuit.length, gateway.record, gateway.record_len, &why))
-        printf("save: %s\n", path);
+        printf("save: %s\n", shown(path).text);
     else
         refuse("%s", why.text);
 }
 
 static void load_file(char *line) {
-    const char *path = file_name("load", line);
+    const char *path = file_name(line);
     message why;
     if (path == NULL)
         return;
@@ -352,7 +365,7 @@ static void load_file(char *line) {
         refuse("%s; the record is as it was", why.text);
         return;
     }
-    printf("load: %s, ", path);
+    printf("load: %s, ", shown(path).text);
     print_phase(stdout, &gateway.circuit, gateway.record);
     printf("\n");
 }
@@ -375,7 +388,7 @@ static void trace_file(char *line) {
     else if (gateway.trace != NULL)
         refuse("a trace is being written: trace alone ends it, then another can begin");
     else if (begin_trace(&gateway, path, &why))
-        printf("trace: %s\n", path);
+        printf("trace: %s\n", shown(path).text);
     else
         refuse("%s", why.text);
 }
@@ -389,30 +402,41 @@ static void help(char *line);
 static const struct {
     const char *name, *words, *what, *more;
     void (*carry_out)(char *line);
+    bool takes_file; /* its words are a file's name */
 } commands[] = {
     {"set", "INPUT VALUE ..", "inputs for the next latch; alone: shows them",
-     "I1 to I24 take 0 or 1, AI1 to AI8 take 0 to 1000: set I1 1 AI2 250. A line with a fault sets nothing.", set_inputs},
+     "I1 to I24 take 0 or 1, AI1 to AI8 take 0 to 1000: set I1 1 AI2 250, or set I1=1. A line with a fault sets nothing.", set_inputs,
+     false},
     {"latch", "[TIME]", "reads the inputs and opens a scan",
      "TIME is what passed since the last latch: 50 (ticks of 10 ms), 500ms, 2.5s, 3min. Alone: by the clock, 0 at the first.",
-     open_scan},
+     open_scan, false},
     {"run", "[N]", "works out the next N blocks; alone: a turn", "N is 0 to 4294967295, or all. Outputs and flags stay as they were.",
-     run_blocks},
-    {"publish", "", "closes the scan: outputs and flags change, all at once", "Refused while blocks are to go.", close_scan},
+     run_blocks, false},
+    {"publish", "", "closes the scan: outputs and flags change, all at once", "Refused while blocks are to go.", close_scan, false},
     {"scan", "[TIME [COUNT]]", "latch, turns and publish, COUNT times",
-     "Printed are the last scan and those in which an output changed. COUNT is 1 to 1000000.", whole_scans},
-    {"turn", "N", "how many blocks a turn works out from now on", "N is 1 to 4294967295, or all.", set_turn},
+     "Printed are the last scan and those in which an output changed. COUNT is 1 to 1000000.", whole_scans, false},
+    {"turn", "N", "how many blocks a turn works out from now on", "N is 1 to 4294967295, or all.", set_turn, false},
     {"look", "[FIRST [LAST]]", "shows where the scan stands, and the blocks", "Between any two blocks. Outputs are shown as published.",
-     look_at},
-    {"warm", "", "warm start: begins anew, retentive blocks are kept", "Refused in a scan.", start_warm},
-    {"cold", "", "cold start: begins anew", "A scan that is open is given up.", start_cold},
-    {"save", "FILE", "writes the record to FILE, whole or not at all", "It replaces a record file, and nothing else.", save_file},
-    {"load", "FILE", "takes the record from FILE", "It must be whole, of this circuit, and sound. Refused in a scan.", load_file},
+     look_at, false},
+    {"warm", "", "warm start: begins anew, retentive blocks are kept", "Refused in a scan.", start_warm, false},
+    {"cold", "", "cold start: begins anew", "A scan that is open is given up.", start_cold, false},
+    {"save", "FILE", "writes the record to FILE, whole or not at all",
+     "It replaces a record file, and nothing else. FILE may not end in .new, where it is written first.", save_file, true},
+    {"load", "FILE", "takes the record from FILE", "It must be whole, of this circuit, and sound. Refused in a scan.", load_file, true},
     {"trace", "[FILE]", "writes every call from now on to FILE; alone: ends it", "FILE must not be there yet. replay plays it again.",
-     trace_file},
-    {"help", "[COMMAND]", "tells the commands, or more of one", "A word that begins with # begins a comment.", help},
-    {"quit", "", "ends; so does the end of input", "A trace is ended; a record that was not saved is lost.", quit},
+     trace_file, true},
+    {"help", "[COMMAND]", "tells the commands, or more of one",
+     "A word that begins with # begins a comment, but not behind save, load and trace.", help, false},
+    {"quit", "", "ends; so does the end of input", "A trace is ended; a record that was not saved is lost.", quit, false},
 };
 enum { COMMANDS = sizeof commands / sizeof *commands };
+
+static shown_text form_of_current(void) {
+    shown_text form;
+    snprintf(form.text, sizeof form.text, "%s%s%s", commands[current].name, *commands[current].words == 0 ? "" : " ",
+             commands[current].words);
+    return form;
+}
 
 /* Which command this is; COMMANDS if none, which is told. */
 static size_t command_of(const char *word) {
@@ -420,7 +444,7 @@ static size_t command_of(const char *word) {
     while (i < COMMANDS && strcmp(commands[i].name, word) != 0)
         i++;
     if (i == COMMANDS)
-        refuse("there is no command `%s`; help tells those that there are", word);
+        refuse("there is no command `%s`; help tells those that there are", shown(word).text);
     return i;
 }
 
@@ -436,23 +460,35 @@ static void help(char *line) {
         printf("%23s%s\n", "", commands[only].more);
 }
 
-/* Cuts the line where a word begins with #. */
-static void cut_comment(char *line) {
+/* Where a word begins with #, at the line's beginning or behind a blank; null if none does. */
+static char *comment_of(char *line) {
     for (char *at = line; (at = strchr(at, '#')) != NULL; at++)
-        if (at == line || at[-1] == ' ' || at[-1] == '\t') {
-            *at = 0;
-            return;
-        }
+        if (at == line || at[-1] == ' ' || at[-1] == '\t')
+            return at;
+    return NULL;
+}
+
+/* Carries out the current command with the rest of its line. What seems a comment could be a part of a file's name: that is refused. */
+static void carry_out_current(char *line) {
+    char *comment = comment_of(line);
+    if (comment != NULL && commands[current].takes_file) {
+        refuse("behind %s no word may begin with #: a file's name is the rest of the line", commands[current].name);
+        return;
+    }
+    if (comment != NULL)
+        *comment = 0;
+    commands[current].carry_out(line);
 }
 
 static void carry_out(char *line) {
     message why;
-    cut_comment(line);
     const char *word = next_word(&line);
-    const size_t command = word == NULL ? COMMANDS : command_of(word);
-    if (command < COMMANDS)
-        commands[command].carry_out(line);
-    if (gateway.trace != NULL && ferror(gateway.trace) && !end_trace(&gateway, &why))
+    if (word == NULL || *word == '#')
+        return;
+    current = command_of(word);
+    if (current < COMMANDS)
+        carry_out_current(line);
+    if (gateway.trace != NULL && gateway.trace_error != 0 && !end_trace(&gateway, &why))
         refuse("%s; it is ended", why.text);
 }
 
@@ -460,7 +496,7 @@ static void carry_out(char *line) {
 
 typedef enum { LINE, TOO_LONG, ZERO_BYTE, NO_LINE } sort_of_line;
 
-/* Reads a line without its end. A last line may lack its end. */
+/* Reads a line without its end. A last line may lack its end; one that cannot be read to its end is none. */
 static sort_of_line read_line(FILE *from, char *line) {
     sort_of_line sort = LINE;
     size_t length = 0;
@@ -477,7 +513,7 @@ static sort_of_line read_line(FILE *from, char *line) {
     if (length > 0 && line[length - 1] == '\r')
         length--;
     line[length] = 0;
-    return sort;
+    return ferror(from) ? NO_LINE : sort;
 }
 
 static void carry_out_all(FILE *from) {
@@ -488,6 +524,8 @@ static void carry_out_all(FILE *from) {
         fflush(stdout);
         const sort_of_line sort = read_line(from, line);
         line_number++;
+        if (sort == NO_LINE && at_a_terminal)
+            printf("\n");
         if (sort == NO_LINE)
             break;
         if (sort == LINE)
@@ -508,15 +546,25 @@ static _Noreturn void cannot_begin(const char *why) {
     exit(CANNOT_GO_ON);
 }
 
+/* How long a turn is, by the word behind --turn. */
+static void read_turn(const char *word) {
+    uint64_t number = UINT32_MAX;
+    message why;
+    if (word == NULL || (strcmp(word, "all") != 0 && !read_number(word, 1, UINT32_MAX, &number))) {
+        fail(&why, "--turn needs a number of blocks, 1 to 4294967295, or all%s%s", word == NULL ? "" : ", not ",
+             word == NULL ? "" : shown(word).text);
+        cannot_begin(why.text);
+    }
+    turn = (uint32_t)number;
+}
+
+/* The circuit's name; null if there is none. */
 static const char *read_options(int count, char **words) {
     const char *path = NULL;
-    uint64_t number;
     for (int i = 1; i < count; i++) {
         const char *next = i + 1 < count ? words[i + 1] : NULL;
         if (strcmp(words[i], "--turn") == 0) {
-            if (next == NULL || !read_number(next, 1, UINT32_MAX, &number))
-                cannot_begin("--turn needs a number of blocks, 1 to 4294967295");
-            turn = (uint32_t)number;
+            read_turn(next);
             i++;
         } else if (strcmp(words[i], "--script") == 0) {
             if (next == NULL)
@@ -524,13 +572,25 @@ static const char *read_options(int count, char **words) {
             script = next;
             i++;
         } else if (words[i][0] == '-' || path != NULL) {
-            fprintf(stderr, "gateway: `%s` is not expected\n%s", words[i], usage);
+            fprintf(stderr, "gateway: `%s` is not expected\n%s", shown(words[i]).text, usage);
             exit(CANNOT_GO_ON);
         } else {
             path = words[i];
         }
     }
     return path;
+}
+
+/* Opens where the commands come from. */
+static FILE *open_commands(void) {
+    struct stat about;
+    message why;
+    FILE *from = script == NULL ? stdin : fopen(script, "r");
+    if (from != NULL && (fstat(fileno(from), &about) != 0 || !S_ISDIR(about.st_mode)))
+        return from;
+    fail(&why, "the script %s cannot be opened: %s; a file with commands is expected",
+         script == NULL ? "on standard input" : shown(script).text, from == NULL ? strerror(errno) : "it is a folder");
+    cannot_begin(why.text);
 }
 
 /* Reads and judges the circuit, and starts. */
@@ -542,7 +602,7 @@ static void begin(const char *path) {
         cannot_begin(why.text);
     const serifdove_answer answer = serifdove_check(bytes, length);
     if (answer.number != SERIFDOVE_ACCEPTED) {
-        fprintf(stderr, "gateway: the circuit in %s is refused.\n", path);
+        fprintf(stderr, "gateway: the circuit in %s is refused.\n", shown(path).text);
         tell_refused_circuit(stderr, answer, bytes, length);
         free(bytes);
         exit(CANNOT_GO_ON);
@@ -550,7 +610,8 @@ static void begin(const char *path) {
     if (!open_box(&gateway, bytes, length))
         cannot_begin("there is no memory for the record");
     cold_start(&gateway);
-    printf("circuit: %s, %zu bytes, %zu blocks, %zu rows; cold start\n", path, length, answer.first, answer.second);
+    printf("circuit: %s, %zu bytes, %zu block%s, %zu row%s; cold start\n", shown(path).text, length, answer.first, plural(answer.first),
+           answer.second, plural(answer.second));
 }
 
 static void end(void) {
@@ -565,7 +626,7 @@ static void end(void) {
 }
 
 int main(int count, char **words) {
-    if (count == 2 && strcmp(words[1], "--help") == 0) {
+    if (count == 2 && (strcmp(words[1], "--help") == 0 || strcmp(words[1], "-h") == 0)) {
         fputs(usage, stdout);
         return ALL_WELL;
     }
@@ -574,11 +635,7 @@ int main(int count, char **words) {
         fputs(usage, stderr);
         return CANNOT_GO_ON;
     }
-    FILE *from = script == NULL ? stdin : fopen(script, "r");
-    if (from == NULL) {
-        fprintf(stderr, "gateway: the script %s cannot be opened: %s\n", script, strerror(errno));
-        return CANNOT_GO_ON;
-    }
+    FILE *from = open_commands();
     at_a_terminal = script == NULL && isatty(STDIN_FILENO);
     begin(path);
     carry_out_all(from);

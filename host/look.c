@@ -12,10 +12,6 @@ void print_phase(FILE *to, const circuit *c, const int32_t *record) {
         fprintf(to, "in a scan, %" PRId32 " of %u blocks done", record[SERIFDOVE_DONE], c->n);
 }
 
-static name flag_name(size_t word) { return destination_name(2, (unsigned)word + 1); }
-
-static name analog_flag_name(size_t word) { return destination_name(4, (unsigned)word + 1); }
-
 static void print_state(FILE *to, const sight *at) {
     const int32_t e = at->record[SERIFDOVE_E];
     fprintf(to, "phase    ");
@@ -26,13 +22,14 @@ static void print_state(FILE *to, const sight *at) {
 }
 
 static void print_shared_words(FILE *to, const sight *at) {
+    const char *flags = at->record[SERIFDOVE_PHASE] != 0 ? "change at publish" : "for the next scan; the blocks saw those before";
     fprintf(to, "inputs   ");
     print_words(to, &at->record[SERIFDOVE_I(1)], SERIFDOVE_INPUT_WORD_COUNT, input_name, "all 0");
     fprintf(to, " (as latched)\nM        ");
     print_words(to, &at->record[SERIFDOVE_M(1)], FLAGS, flag_name, "all 0");
-    fprintf(to, " (change at publish)\nAM       ");
+    fprintf(to, " (%s)\nAM       ", flags);
     print_words(to, &at->record[SERIFDOVE_AM(1)], FLAGS, analog_flag_name, "all 0");
-    fprintf(to, " (change at publish)\noutputs  ");
+    fprintf(to, " (%s)\noutputs  ", flags);
     print_words(to, at->outputs, SERIFDOVE_OUTPUT_WORD_COUNT, output_name, "all 0");
     fprintf(to, " (%s)\n", at->published ? "as published" : "nothing is published yet");
 }
@@ -60,7 +57,7 @@ static pieces inputs_of(const block *b, const int32_t *record) {
     const kind *k = kind_of(b->kind);
     pieces inputs = {0};
     for (unsigned i = 0; i < MOST_OF_A_BLOCK && k->inputs[i] != NULL; i++) {
-        const bool is_named = k->inputs[i][0] > '9';
+        const bool is_named = *k->inputs[i] != 0;
         add(&inputs, ", ", is_named ? k->inputs[i] : connector_name(b->inputs[i]).text);
         if (is_named)
             add(&inputs, " ", connector_name(b->inputs[i]).text);
@@ -118,26 +115,37 @@ static pieces memory_of(const block *b, const int32_t *words) {
 
 /* ---- the blocks */
 
-enum { KIND_WIDTH = 20, LABEL_WIDTH = 16 };
+enum { KIND_WIDTH = 20 };
 
-static int widest_inputs(const sight *at, unsigned first, unsigned last) {
-    size_t widest = strlen("inputs");
-    for (unsigned number = first; number <= last; number++) {
-        const size_t length = strlen(inputs_of(&at->circuit->block[number], at->record).text);
-        widest = length > widest ? length : widest;
-    }
-    return (int)widest;
+/* How wide the columns of labels and inputs are. */
+typedef struct {
+    int label, inputs;
+} widths;
+
+static int wider(int width, const char *text) {
+    const int length = (int)strlen(text);
+    return length > width ? length : width;
 }
 
-static void print_block(FILE *to, const sight *at, unsigned number, int width) {
+static widths widths_of(const sight *at, unsigned first, unsigned last) {
+    enum { LABEL = 16 };
+    widths w = {LABEL, (int)strlen("inputs")};
+    for (unsigned number = first; number <= last; number++) {
+        w.label = wider(w.label, label_of(&at->circuit->block[number]).text);
+        w.inputs = wider(w.inputs, inputs_of(&at->circuit->block[number], at->record).text);
+    }
+    return w;
+}
+
+static void print_block(FILE *to, const sight *at, unsigned number, widths w) {
     const block *b = &at->circuit->block[number];
     const int32_t *words = &at->record[SERIFDOVE_BLOCK_OUTPUT(number)];
     const bool to_go = at->record[SERIFDOVE_PHASE] != 0 && (int32_t)number > at->record[SERIFDOVE_DONE];
     const pieces memory = memory_of(b, words);
     const bool dim = to_go && at->coloured;
-    fprintf(to, "%s%5u  %-*s  %-*s  %-*s  %6" PRId32 "%s%s%s\n", dim ? "\033[2m" : "", number, LABEL_WIDTH, label_of(b).text,
-            KIND_WIDTH, kind_of(b->kind)->name, width, inputs_of(b, at->record).text, words[0], *memory.text == 0 ? "" : "  ",
-            memory.text, dim ? "\033[0m" : "");
+    fprintf(to, "%s%5u  %-*s  %-*s  %-*s  %6" PRId32 "%s%s%s\n", dim ? "\033[2m" : "", number, w.label, label_of(b).text, KIND_WIDTH,
+            kind_of(b->kind)->name, w.inputs, inputs_of(b, at->record).text, words[0], *memory.text == 0 ? "" : "  ", memory.text,
+            dim ? "\033[0m" : "");
 }
 
 /* Where the scan stands: between the blocks that are done and those to go. */
@@ -147,22 +155,22 @@ static void print_mark(FILE *to, const sight *at) {
     if (to_go == 0)
         fprintf(to, ": all are done, publish closes it");
     else
-        fprintf(to, ", before block %" PRId32 ": %" PRId32 " done, %" PRId32 " to go, which show the words of the last scan", done + 1,
-                done, to_go);
+        fprintf(to, ", before block %" PRId32 ": %" PRId32 " done, %" PRId32 " to go, which show their words from before this scan",
+                done + 1, done, to_go);
     fprintf(to, "%s\n", at->coloured ? "\033[0m" : "");
 }
 
 void look(FILE *to, const sight *at, unsigned first, unsigned last) {
     const int32_t *record = at->record;
     const bool in_scan = record[SERIFDOVE_PHASE] != 0;
-    const int width = widest_inputs(at, first, last);
+    const widths w = widths_of(at, first, last);
     print_state(to, at);
     print_shared_words(to, at);
-    fprintf(to, "block  %-*s  %-*s  %-*s  output\n", LABEL_WIDTH, "label", KIND_WIDTH, "kind", width, "inputs");
+    fprintf(to, "block  %-*s  %-*s  %-*s  output\n", w.label, "label", KIND_WIDTH, "kind", w.inputs, "inputs");
     if (in_scan && (unsigned)record[SERIFDOVE_DONE] < first)
         print_mark(to, at);
     for (unsigned number = first; number <= last; number++) {
-        print_block(to, at, number, width);
+        print_block(to, at, number, w);
         if (in_scan && (unsigned)record[SERIFDOVE_DONE] == number)
             print_mark(to, at);
     }

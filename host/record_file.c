@@ -69,7 +69,8 @@ static char *text_of(const uint8_t *circuit, size_t circuit_len, const int32_t *
 /* ---- saving: the files */
 
 static bool not_saved(const char *path, const char *what, message *why) {
-    return fail(why, "%s is as it was: %s: %s", path, what, strerror(errno));
+    const char *error = strerror(errno);
+    return fail(why, "%s is as it was: %s: %s", shown(path).text, what, error);
 }
 
 static bool is_file(int file) {
@@ -77,22 +78,26 @@ static bool is_file(int file) {
     return fstat(file, &about) == 0 && S_ISREG(about.st_mode);
 }
 
+/* Whether the open file begins as a record file does; `cut` takes one that ends within that too. */
+static bool begins_as_record(int file, bool cut) {
+    char first[sizeof head - 1];
+    const ssize_t count = pread(file, first, sizeof first, 0);
+    return count >= 0 && (cut || count == sizeof first) && memcmp(first, head, (size_t)count) == 0;
+}
+
 /* Whether nothing stands at FILE, or a record file of any version. */
 static bool may_be_replaced(const char *path, message *why) {
-    char first[sizeof head - 1];
+    static const char expected[] = "is not replaced; a record file or a name that is free is expected";
     const int file = open(path, O_RDONLY | O_NONBLOCK | O_NOFOLLOW | O_CLOEXEC);
     if (file < 0 && errno == ENOENT)
         return true;
-    if (file < 0 && errno != ELOOP)
-        return not_saved(path, "it cannot be opened", why);
-    const bool plain = file >= 0 && is_file(file);
-    const ssize_t count = plain ? read(file, first, sizeof first) : 0;
-    if (file >= 0)
-        close(file);
-    if (!plain)
-        return fail(why, "%s is not a file and is not replaced; a record file or a name that is free is expected", path);
-    if (count != sizeof first || memcmp(first, head, sizeof first) != 0)
-        return fail(why, "%s is no record file and is not replaced; a record file or a name that is free is expected", path);
+    if (file < 0)
+        return errno == ELOOP ? fail(why, "%s is a link and %s", shown(path).text, expected)
+                              : not_saved(path, "it cannot be opened", why);
+    const bool plain = is_file(file), is_record = plain && begins_as_record(file, false);
+    close(file);
+    if (!is_record)
+        return fail(why, "%s is %s and %s", shown(path).text, plain ? "no record file" : "not a file", expected);
     return true;
 }
 
@@ -129,24 +134,38 @@ static bool stands_at(int file, const char *path) {
 }
 
 /* Opens the temporary file and locks it: who saves to the same FILE waits. What was renamed while the lock was awaited is left alone
-   and the next one opened; each time another has saved. On -1 errno tells why, and the file, which may be another's, stays. */
+   and the next one opened; each time another has saved. On -1 errno tells why: EEXIST where no save can have left what stands there. */
 static int open_locked(const char *temporary) {
     enum { MOST_TIMES = 10000 };
     for (unsigned times = 0; times < MOST_TIMES; times++) {
-        const int file = open(temporary, O_WRONLY | O_CREAT | O_NOFOLLOW | O_NONBLOCK | O_CLOEXEC, 0644);
+        const int file = open(temporary, O_RDWR | O_CREAT | O_NOFOLLOW | O_NONBLOCK | O_CLOEXEC, 0644);
         if (file < 0)
             return -1;
-        const bool plain = is_file(file), locked = plain && lock(file);
-        if (locked && stands_at(file, temporary))
+        const bool plain = is_file(file), locked = plain && lock(file), own = locked && stands_at(file, temporary);
+        const int error = plain && !own ? errno : EEXIST;
+        if (own && begins_as_record(file, true))
             return file;
-        const int error = plain ? errno : EEXIST;
         close(file);
         errno = error;
-        if (!locked)
+        if (!locked || own)
             return -1;
     }
     errno = EBUSY;
     return -1;
+}
+
+static bool not_opened(const char *path, message *why) {
+    switch (errno) {
+    case EWOULDBLOCK:
+        return not_saved(path, "another program is saving to it, and does not end", why);
+    case EEXIST:
+    case ELOOP:
+    case EISDIR:
+        return fail(why, "%s is as it was: at its temporary name, with .new behind it, stands what no save has left; move that away",
+                    shown(path).text);
+    default:
+        return not_saved(path, "its temporary file (.new) cannot be opened and locked", why);
+    }
 }
 
 static bool write_whole(int file, const char *bytes, size_t length) {
@@ -194,12 +213,10 @@ static bool put_file(const char *path, const char *temporary, const char *text, 
     if (folder < 0)
         return not_saved(path, "its folder cannot be opened", why);
     const int file = open_locked(temporary);
-    bool saved = file >= 0              ? fill_and_rename(file, temporary, path, text, length, why)
-                 : errno == EWOULDBLOCK ? not_saved(path, "another program is saving to it, and does not end", why)
-                                        : not_saved(path, "its temporary file (.new) cannot be opened and locked", why);
+    bool saved = file >= 0 ? fill_and_rename(file, temporary, path, text, length, why) : not_opened(path, why);
     if (saved && !sync_whole(folder) && errno != EINVAL)
-        saved = fail(why, "%s is this record, but its folder cannot be synced: %s; if power fails now, it may be the one before", path,
-                     strerror(errno));
+        saved = fail(why, "%s is this record, but its folder cannot be synced: %s; if power fails now, it may be the one before",
+                     shown(path).text, strerror(errno));
     if (file >= 0)
         close(file);
     close(folder);
@@ -209,13 +226,15 @@ static bool put_file(const char *path, const char *temporary, const char *text, 
 bool save_record(const char *path, const uint8_t *circuit, size_t circuit_len, const int32_t *record, size_t record_len, message *why) {
     static const char behind[] = ".new";
     if (record_len > MOST_WORDS)
-        return fail(why, "%s is as it was: a record has at most %d words, this one has %zu", path, MOST_WORDS, record_len);
+        return fail(why, "%s is as it was: a record has at most %d words, this one has %zu", shown(path).text, MOST_WORDS, record_len);
     if (path[0] == 0)
         return fail(why, "the name of a file is expected");
+    const size_t path_len = strlen(path), behind_len = sizeof behind - 1;
+    if (path_len >= behind_len && strcmp(path + path_len - behind_len, behind) == 0)
+        return fail(why, "%s ends in .new, as only the temporary file of a save does; another name is expected", shown(path).text);
     if (!may_be_replaced(path, why))
         return false;
     size_t length = 0;
-    const size_t path_len = strlen(path);
     char *text = text_of(circuit, circuit_len, record, record_len, &length), *temporary = malloc(path_len + sizeof behind);
     bool saved = false;
     if (text != NULL && temporary != NULL) {
@@ -293,7 +312,8 @@ static bool judge_sum(text *t) {
     if (digits_next(&last, is_sum_digit) != SUM_DIGITS || last.bytes[place + SUM_LINE - 1] != '\n')
         return fail(t->why, "%s is damaged: its sum is not eight hexadecimal digits and a line end", t->path);
     if (rest > SUM_LINE)
-        return fail(t->why, "%s is damaged: behind its last line there are %zu bytes; none are expected", t->path, rest - SUM_LINE);
+        return fail(t->why, "%s is damaged: behind its last line there %s %zu byte%s; none is expected", t->path,
+                    rest - SUM_LINE == 1 ? "is" : "are", rest - SUM_LINE, plural(rest - SUM_LINE));
     const sum_text sum = sum_of(t->bytes, place);
     if (!is_next(&last, sum.digits))
         return fail(t->why, "%s is damaged: its sum is %.8s, that of its bytes is %s", t->path, (const char *)last.bytes + last.at,
@@ -391,14 +411,15 @@ static bool judge_contents(const char *path, const uint8_t *circuit, size_t circ
 }
 
 bool load_record(const char *path, const uint8_t *circuit, size_t circuit_len, int32_t *record, size_t record_len, message *why) {
+    const shown_text name = shown(path);
     uint8_t *bytes;
     size_t length;
     contents c;
     if (!read_file(path, "a record", MOST_BYTES, &bytes, &length, why))
         return false;
-    text t = {path, bytes, length, 0, why};
-    const bool loaded =
-        judge_head(&t) && judge_sum(&t) && take_contents(&t, &c) && judge_contents(path, circuit, circuit_len, record_len, &c, why);
+    text t = {name.text, bytes, length, 0, why};
+    const bool loaded = judge_head(&t) && judge_sum(&t) && take_contents(&t, &c) &&
+                        judge_contents(name.text, circuit, circuit_len, record_len, &c, why);
     if (loaded)
         memcpy(record, c.words, record_len * sizeof *record);
     free(bytes);

@@ -1,6 +1,6 @@
 #include "refusals.h"
 
-#include <stdbool.h>
+#include "circuit.h"
 
 typedef struct {
     const char *meaning, *cure;
@@ -8,8 +8,9 @@ typedef struct {
 
 static const words refusals[] = {
     [SERIFDOVE_CUT_SHORT] = {"the bytes end inside a field or before the end field", "ask the supplier for the whole file"},
-    [SERIFDOVE_TAG_OR_LENGTH] = {"the field's tag is unknown or out of place, or its content has a wrong length",
-                                 "this is no circuit, or it was damaged on its way: compare it with the supplier's"},
+    [SERIFDOVE_TAG_OR_LENGTH] =
+        {"the field's tag is unknown or out of place, or its content has a wrong length",
+         "if this is a circuit at all, it was damaged on its way or made wrongly: compare it with the supplier's"},
     [SERIFDOVE_VERSION] = {"the version is not 1", "ask the supplier for a circuit of version 1"},
     [SERIFDOVE_NUMBER_OF_BLOCKS] = {"the header says more than 400 blocks, or there are more or fewer blocks than it says",
                                     "let the header's number be the number of blocks, at most 400"},
@@ -19,8 +20,10 @@ static const words refusals[] = {
                              "look at its class, its number, its inversion, and whether the block that it names is digital or analog"},
     [SERIFDOVE_OWN_OR_LATER_BLOCK] = {"the block names itself or a later block",
                                       "let it name an earlier block, or take the value over a flag"},
-    [SERIFDOVE_PARAMETER] = {"a parameter is out of range", "compare the block's parameters with the table of kinds"},
-    [SERIFDOVE_DESTINATION] = {"the row's destination is unknown or used twice", "give each of Q, M, AQ and AM one row at most"},
+    [SERIFDOVE_PARAMETER] = {"a parameter is out of range",
+                             "compare the block's parameters with their ranges (docs/OPERATING.md, Limits)"},
+    [SERIFDOVE_DESTINATION] = {"the row's destination is unknown or used twice",
+                               "there are Q1 to Q20, M1 to M64, AQ1 to AQ8 and AM1 to AM64; give each one row at most"},
     [SERIFDOVE_INDEX_USED_TWICE] = {"the shift register's index is used twice", "give each shift register an index of its own, 1 to 4"},
     [SERIFDOVE_SURPLUS_BYTES] = {"bytes follow the end field", "cut the file behind its end field, or ask the supplier what they are"},
     [SERIFDOVE_RECORD_LENGTH] = {"the record has a wrong length", "lend 164 + 3n words for a circuit of n blocks"},
@@ -44,25 +47,32 @@ const char *refusal_cure(size_t number) { return words_of(number).cure; }
 
 /* ---- a refused circuit */
 
-enum { FIELD_HEAD = 3, BLOCK_TAG = 0x10 };
+/* A sort of field: how long its content is (of a block: by its kind), and where it may stand. */
+static const struct {
+    unsigned tag;
+    const char *name;
+    size_t least, greatest;
+    const char *length, *place;
+} fields[] = {
+    {HEADER_TAG, "a header", 3, 3, "a header has 3 bytes", "a header stands at the beginning, once"},
+    {BLOCK_TAG, "a block", 1, SIZE_MAX, "a block has a kind", "blocks stand behind the header and before the rows"},
+    {LABEL_TAG, "a label", 0, 16, "a label has at most 16 bytes", "a label stands behind its block, one at most"},
+    {ROW_TAG, "a row", 5, 5, "a row has 5 bytes", "rows stand behind the blocks"},
+    {END_TAG, "an end field", 0, 0, "an end field has no content", "the end field stands last"},
+};
+enum { SORTS = sizeof fields / sizeof *fields };
 
-static size_t content_length(const uint8_t *field) { return (size_t)field[1] << 8 | field[2]; }
+/* Which sort of field has this tag; SORTS if none. */
+static size_t sort_of(unsigned tag) {
+    size_t i = 0;
+    while (i < SORTS && fields[i].tag != tag)
+        i++;
+    return i;
+}
 
-static const char *tag_name(unsigned tag) {
-    switch (tag) {
-    case 0x01:
-        return "a header";
-    case BLOCK_TAG:
-        return "a block";
-    case 0x20:
-        return "a label";
-    case 0x30:
-        return "a row";
-    case 0x7F:
-        return "an end field";
-    default:
-        return "no field that is known";
-    }
+/* The kind of the block that begins here; null if it is not told, or unknown. */
+static const kind *kind_at(const uint8_t *field, size_t rest) {
+    return rest > FIELD_HEAD && field[0] == BLOCK_TAG && content_length(field) > 0 ? kind_of(field[FIELD_HEAD]) : NULL;
 }
 
 /* How many blocks begin before the place. The fields before it are whole. */
@@ -78,35 +88,57 @@ static void tell_field(FILE *to, const uint8_t *bytes, size_t length, size_t pla
         fprintf(to, "  The bytes end here, after %zu of them.\n", length);
         return;
     }
-    fprintf(to, "  There begins %s (tag %02x)", tag_name(bytes[place]), bytes[place]);
+    const size_t sort = sort_of(bytes[place]), rest = length - place;
+    const kind *k = kind_at(bytes + place, rest);
+    fprintf(to, "  There begins %s (tag %02x)", sort == SORTS ? "no field that is known" : fields[sort].name, bytes[place]);
     if (bytes[place] == BLOCK_TAG)
         fprintf(to, ", block %u", blocks_before(bytes, place) + 1);
-    if (length - place >= FIELD_HEAD)
-        fprintf(to, ", content of %zu bytes", content_length(bytes + place));
+    if (k != NULL)
+        fprintf(to, ", kind %u, %s", bytes[place + FIELD_HEAD], k->name);
+    if (rest >= FIELD_HEAD)
+        fprintf(to, ", content of %zu byte%s", content_length(bytes + place), plural(content_length(bytes + place)));
     fprintf(to, ".\n");
 }
 
+/* What refusal 2 holds of the whole field that begins here: a wrong length, else it stands in a wrong place. */
+static void tell_tag_or_length(FILE *to, const uint8_t *field, size_t place) {
+    const size_t sort = sort_of(field[0]), content = content_length(field);
+    const kind *k = kind_at(field, FIELD_HEAD + 1);
+    if (sort == SORTS)
+        fprintf(to, "  Tags are 01 header, 10 block, 20 label, 30 row, 7f end.\n");
+    else if (content < fields[sort].least || content > fields[sort].greatest)
+        fprintf(to, "  Its length is wrong: %s.\n", fields[sort].length);
+    else if (k != NULL && content != block_length(k))
+        fprintf(to, "  Its length is wrong: kind %u, %s, has %zu bytes.\n", field[FIELD_HEAD], k->name, block_length(k));
+    else
+        fprintf(to, "  It is out of place: %s.\n", place == 0 ? "a circuit begins with its header" : fields[sort].place);
+}
+
 /* One line of hexadecimal bytes, and below it a mark if the place stands in it. */
-static void print_hex_line(FILE *to, const uint8_t *bytes, size_t from, size_t end, size_t place) {
+static void print_hex_line(FILE *to, const uint8_t *bytes, size_t from, size_t end, size_t place, bool is_last) {
     fprintf(to, "  %6zu ", from);
     for (size_t i = from; i < end; i++)
         fprintf(to, " %02x", bytes[i]);
     fprintf(to, "\n");
-    if (from <= place && (place < end || (place == end && end % 16 != 0)))
+    if (from <= place && (place < end || (place == end && is_last)))
         fprintf(to, "         %*s^^ byte %zu\n", (int)(3 * (place - from)) + 1, "", place);
 }
 
 static void print_bytes_around(FILE *to, const uint8_t *bytes, size_t length, size_t place) {
     enum { LINE = 16, BEFORE = 1, LINES = 4 };
     const size_t line = place / LINE, first = (line > BEFORE ? line - BEFORE : 0) * LINE;
-    for (size_t from = first; from < length && from < first + LINES * LINE; from += LINE)
-        print_hex_line(to, bytes, from, length - from < LINE ? length : from + LINE, place);
+    for (size_t from = first; from < length && from < first + LINES * LINE; from += LINE) {
+        const bool is_last = length - from <= LINE;
+        print_hex_line(to, bytes, from, is_last ? length : from + LINE, place, is_last);
+    }
 }
 
 void tell_refused_circuit(FILE *to, serifdove_answer answer, const uint8_t *bytes, size_t length) {
     fprintf(to, "  Refusal %zu at byte %zu: %s.\n", answer.number, answer.place, refusal_meaning(answer.number));
     if (answer.number != SERIFDOVE_SURPLUS_BYTES)
         tell_field(to, bytes, length, answer.place);
+    if (answer.number == SERIFDOVE_TAG_OR_LENGTH)
+        tell_tag_or_length(to, bytes + answer.place, answer.place);
     print_bytes_around(to, bytes, length, answer.place);
     fprintf(to, "  What to do: %s.\n", refusal_cure(answer.number));
 }

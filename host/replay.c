@@ -3,7 +3,6 @@
 #include "serifdove.h"
 #include "trace.h"
 
-#include <inttypes.h>
 #include <stdbool.h>
 #include <stdio.h>
 #include <stdlib.h>

@@ -1,10 +1,8 @@
-#define _POSIX_C_SOURCE 200809L
 #include "words.h"
 
 #include "circuit.h"
 
 #include <string.h>
-#include <strings.h>
 
 static const char blanks[] = " \t";
 

@@ -39,7 +39,7 @@ in_scan 3 'Scan 3, 2.00 s after the one before (e 200), in turns of 1 block' 'ya
     'turn 1 B1 B1 open_press (AND edge) 0 -> 1 printer: job 5, 74 bytes' 'turn 7 B7 no change' 'turn 15 B15 no change' \
     'publish no output changes: Q7 lamp green, AQ1 level display 42.0 %'
 # An empty turn works out no block.
-in_scan 4 'turn 1 no block no change' 'turn 2 B1-B8 B1 open_press (AND edge) 1 -> 0' 'B3 clear (AND) 0 -> 1' 'turn 3 B9-B15 no change' 'publish no output changes'
+in_scan 4 'turn 1 none an empty turn' 'turn 2 B1-B8 B1 open_press (AND edge) 1 -> 0' 'B3 clear (AND) 0 -> 1' 'turn 3 B9-B15 no change' 'publish no output changes'
 # The door goes up at the publish and not before, though its block is 1 four turns earlier; a publish in between is refused.
 in_scan 5 'turn 4 B7-B8 B7 up (latching relay) 0 -> 1' 'too early publish with 7 blocks to go: refused by number 22, nothing has changed' 'turn 8 B15 B15 stay (NOT) 0 -> 1' \
     'till here outputs untouched: Q7 lamp green, AQ1 level display 42.0 %' 'publish all at once: Q1 door motor UP 0 -> 1, Q7 lamp green 1 -> 0, Q8 lamp red 0 -> 1' \
@@ -137,7 +137,8 @@ echo "demo: wrong circuits, files and words"
 # The command in a clone without an archive, where rt is missing, and where it proves one crate and not the next.
 mkdir "$work/commands" "$work/clone"
 cp -r demo tests crates.txt crates "$work/clone" || exit 1
-for folder in ${PATH//:/ }; do
+IFS=: read -ra folders <<<"$PATH"
+for folder in "${folders[@]}"; do
     ln -s "$folder"/* "$work/commands" 2>/dev/null
 done
 in_clone() {

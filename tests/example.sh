@@ -87,7 +87,7 @@ echo "example: docs/example.c, $(wc -l <docs/example.c) lines"
 
 [ "$(blocks c)" -gt 0 ] || wrong "$page shows nothing of docs/example.c"
 for ((k = 1; k <= $(blocks c); k++)); do
-    python3 -c 'import sys; sys.exit(sys.argv[1] not in open("docs/example.c").read())' "$(block c $k)" || wrong "$page: its C block $k does not stand in docs/example.c"
+    python3 -c 'import sys; sys.exit(not sys.argv[1] or sys.argv[1] not in open("docs/example.c").read())' "$(block c $k)" || wrong "$page: its C block $k does not stand in docs/example.c"
 done
 
 for name in $(grep -o 'SERIFDOVE_[A-Z_]*' $header | sort -u | grep -v -x SERIFDOVE_H); do

@@ -10,6 +10,12 @@ build_replay
 build_gateway
 here=$PWD
 
+# wrong WHAT: tells it and ends
+wrong() {
+    echo "gateway: $*"
+    exit 1
+}
+
 # says STATUS [WORD..]: the gateway's words; commands on standard input; `expected` and `complaints` hold what it must print, to the byte
 says() {
     local status
@@ -44,16 +50,17 @@ complains 2 '`--help` is not expected' x --help
 complains 2 '`y` is not expected' x y
 complains 2 '`-t` is not expected' -t
 for wrong in 0 -1 4294967296 2x ''; do
-    complains 2 '--turn needs a number of blocks' x --turn "$wrong"
+    complains 2 "--turn needs a number of blocks, 1 to 4294967295, or all, not $wrong" x --turn "$wrong"
 done
-complains 2 '--turn needs a number of blocks' x --turn
+complains 2 '--turn needs a number of blocks, 1 to 4294967295, or all' x --turn
 complains 2 '--script needs the name' x --script
 complains 2 'there_is_none cannot be opened: No such file or directory; a file with a circuit is expected' there_is_none
 complains 2 '. is not a file; a file with a circuit is expected' .
 head -c 65537 /dev/zero >"$work/long"
 complains 2 'long is too long: a circuit has at most 65536 bytes' long
 bytes '' empty
-complains 2 'the script there_is_none cannot be opened: No such file or directory' empty --script there_is_none
+complains 2 'the script there_is_none cannot be opened: No such file or directory; a file with commands is expected' empty --script there_is_none
+complains 2 'the script . cannot be opened: it is a folder; a file with commands is expected' empty --script .
 
 head=010003010001 block=10000e0100010001010002000000000000 row=300005010106 end=7f0000
 good=$head$block${row}0001$end
@@ -67,15 +74,27 @@ refuses() {
     refused=$((refused + 1))
 }
 refuses 1 31 "$head$block${row}0001" 'The bytes end here, after 31 of them.'
-refuses 1 6 "$head${block%00}" 'There begins a block (tag 10), block 1, content of 14 bytes.'
+refuses 1 6 "$head${block%00}" 'There begins a block (tag 10), block 1, kind 1, AND, content of 14 bytes.'
 refuses 2 0 "02${good#01}" 'There begins no field that is known (tag 02)'
+refuses 2 0 "$block${good#$head}" 'It is out of place: a circuit begins with its header.'
+refuses 2 0 "0100040100017f$end" 'Its length is wrong: a header has 3 bytes.'
+refuses 2 6 "${head}10000d01000100010100020000000000$end" 'Its length is wrong: kind 1, AND, has 14 bytes.'
+refuses 2 6 "${head}100000$end" 'Its length is wrong: a block has a kind.'
+refuses 2 23 "$head${block}200011$(printf '41%.0s' {1..17})$end" 'Its length is wrong: a label has at most 16 bytes.'
+refuses 2 27 "$head${block}20000141200000$end" 'It is out of place: a label stands behind its block, one at most.'
+refuses 2 31 "$head$block${row}0001$block$end" 'It is out of place: blocks stand behind the header and before the rows.'
+refuses 2 23 "$head${block}30000401010100$end" 'Its length is wrong: a row has 5 bytes.'
+refuses 2 23 "$head${block}7f000100" 'Its length is wrong: an end field has no content.'
+refuses 2 6 "$head$head$end" 'It is out of place: a header stands at the beginning, once.'
+refuses 1 32 "010003010001${block}2000061111111111117f" 'There begins an end field (tag 7f).'
+refuses 1 32 "010003010001${block}200006111111111111" 'The bytes end here, after 32 of them.'
 refuses 3 0 "01000302${good#01000301}" 'the version is not 1'
 refuses 4 23 "010003010002${good#$head}" 'There begins a row (tag 30), content of 5 bytes.'
 refuses 5 6 "${head}10000e11${good#${head}10000e01}" 'kinds are 1 to 16'
 refuses 6 6 "${head}10000e0100060002${good#${head}10000e0100010001}" 'a connector is not allowed there'
 refuses 7 6 "${head}10000e0100060001${good#${head}10000e0100010001}" '       0  01 00 03 01 00 01 10 00 0e 01 00 06 00 01 01 00'
 refuses 8 6 "${head}10000d09000100010000000300000000$end" 'a parameter is out of range'
-refuses 9 31 "$head$block${row}0001${row}0001$end" 'give each of Q, M, AQ and AM one row at most'
+refuses 9 31 "$head$block${row}0001${row}0001$end" 'there are Q1 to Q20, M1 to M64, AQ1 to AQ8 and AM1 to AM64; give each one row at most'
 register=1000130c000000000000000000000000000100000001
 refuses 10 28 "010003010002$register$register$end" 'give each shift register an index of its own'
 refuses 11 34 "${good}00" 'bytes follow the end field'
@@ -139,7 +158,7 @@ block  label             kind                  inputs                       outp
     1  press             AND edge              I1 1, - 1, - 1, - 1               1  remembered 1
     2  lane              off-delay             Trg B1 1, R !I2 0                 1  retentive; remembered 1; Ta 0.00 s of 3.00 s
     3  bits              shift register        In I1 1, Trg I2 1, Dir lo 0       1  remembered 1; bits 8 to 1: 00000001; index 1, bit 1
-====>  the scan stands here, before block 4: 3 done, 2 to go, which show the words of the last scan
+====>  the scan stands here, before block 4: 3 done, 2 to go, which show their words from before this scan
     4  level             threshold trigger     Ax AI1 10                         0  A -0.33, B 10, On 5, Off 4
     5  a\x5cb,\xc3\xbc   multiplexer           En hi 1, S1 B2 1, S2 - 0          0  V1 -5, V2 0, V3 700, V4 9
 run: 2 blocks worked out, 0 to go
@@ -151,8 +170,8 @@ scan 4 of 4: e 100 (1.00 s), 3 turns; AQ1 -5; nothing changed
 turn: all blocks
 phase    waiting
 inputs   I2 1 (as latched)
-M        M1 1 (change at publish)
-AM       all 0 (change at publish)
+M        M1 1 (for the next scan; the blocks saw those before)
+AM       all 0 (for the next scan; the blocks saw those before)
 outputs  AQ1 -5 (as published)
 block  label             kind                  inputs                       output
     2  lane              off-delay             Trg B1 0, R !I2 0                 0  retentive; remembered 0; Ta 0.00 s of 3.00 s
@@ -162,8 +181,8 @@ scan 2 of 2: e 25 (0.25 s), 5 turns; AQ1 -5; nothing changed
 warm: begun anew, retentive blocks kept
 phase    waiting; nothing published since the start
 inputs   all 0 (as latched)
-M        M8 1 (change at publish)
-AM       all 0 (change at publish)
+M        M8 1 (for the next scan; the blocks saw those before)
+AM       all 0 (for the next scan; the blocks saw those before)
 outputs  AQ1 -5 (as published)
 block  label             kind                  inputs             output
     2  lane              off-delay             Trg B1 0, R !I2 1       0  retentive; remembered 0; Ta 0.00 s of 3.00 s
@@ -243,8 +262,8 @@ run: 5 blocks worked out, 0 to go
 publish: AQ1 -5; changed: AQ1 0 -> -5
 phase    waiting
 inputs   all 0 (as latched)
-M        M1 1 (change at publish)
-AM       all 0 (change at publish)
+M        M1 1 (for the next scan; the blocks saw those before)
+AM       all 0 (for the next scan; the blocks saw those before)
 outputs  AQ1 -5 (as published)
 block  label             kind                  inputs               output
     1  press             AND edge              I1 0, - 1, - 1, - 1       0  remembered 0
@@ -252,40 +271,40 @@ END
 cat >"$work/complaints" <<'END'
 gateway: line 1: there is no command `open`; help tells those that there are
 gateway: line 2: `I25` is no input; expected is I1 to I24 or AI1 to AI8
-gateway: line 3: `` is no value of I1; expected is 0 or 1
+gateway: line 3: a word is missing; expected is: set INPUT VALUE ..
 gateway: line 4: `2` is no value of I1; expected is 0 or 1
 gateway: line 5: `1001` is no value of AI1; expected is 0 to 1000
 gateway: line 6: `Q1` is no input; expected is I1 to I24 or AI1 to AI8
-gateway: line 8: `x` is no time for latch; expected is 0 to 65535 ticks of 10 ms, such as 50, 500ms, 2.5s or 3min
-gateway: line 9: `655.36s` is no time for latch; expected is 0 to 65535 ticks of 10 ms, such as 50, 500ms, 2.5s or 3min
-gateway: line 10: `15ms` is no time for latch; expected is 0 to 65535 ticks of 10 ms, such as 50, 500ms, 2.5s or 3min
-gateway: line 11: `2` is too much on this line
+gateway: line 8: `x` is no time; expected are whole ticks of 10 ms, such as 50, 500ms, 2.5s or 3min
+gateway: line 9: `655.36s` is too long for one latch; expected is at most 65535 ticks, which are 655.35s
+gateway: line 10: `15ms` is no time; expected are whole ticks of 10 ms, such as 50, 500ms, 2.5s or 3min
+gateway: line 11: `2` is too much; expected is: latch [TIME]
 gateway: line 12: run is refused (22): no scan is open; latch opens one
 gateway: line 13: publish is refused (22): no scan is open; latch opens one
 gateway: line 14: `0` is no number of blocks; expected is 1 to 4294967295, or all
-gateway: line 15: `` is no number of blocks; expected is 1 to 4294967295, or all
-gateway: line 16: `x` is too much on this line
+gateway: line 15: a word is missing; expected is: turn N
+gateway: line 16: `x` is too much; expected is: turn N
 gateway: line 17: `6` is no block; expected is 1 to 5
 gateway: line 18: `0` is no block; expected is 1 to 5
 gateway: line 19: `3` is no block; expected is 4 to 5
-gateway: line 20: `3` is too much on this line
+gateway: line 20: `3` is too much; expected is: look [FIRST [LAST]]
 gateway: line 21: `0` is no number of scans; expected is 1 to 1000000
-gateway: line 22: `3` is too much on this line
-gateway: line 23: `-1` is no time for latch; expected is 0 to 65535 ticks of 10 ms, such as 50, 500ms, 2.5s or 3min
+gateway: line 22: `3` is too much; expected is: scan [TIME [COUNT]]
+gateway: line 23: `-1` is no time; expected are whole ticks of 10 ms, such as 50, 500ms, 2.5s or 3min
 gateway: line 25: latch is refused (22): a scan is open with 5 blocks to go; run, then publish
 gateway: line 26: warm is refused (22): a scan is open with 5 blocks to go; run, then publish
 gateway: line 27: load is refused: a scan is open and would be lost; close it by run and publish, or give it up by cold
 gateway: line 28: `4294967296` is no number of blocks; expected is 0 to 4294967295, or all
 gateway: line 29: `-1` is no number of blocks; expected is 0 to 4294967295, or all
-gateway: line 30: `1` is too much on this line
+gateway: line 30: `1` is too much; expected is: run [N]
 gateway: line 31: publish is refused (22): a scan is open with 5 blocks to go; run, then publish
 gateway: line 33: latch is refused (22): a scan is open and worked out; publish closes it
-gateway: line 35: save needs the name of a file: save FILE
-gateway: line 36: load needs the name of a file: load FILE
+gateway: line 35: a word is missing; expected is: save FILE
+gateway: line 36: a word is missing; expected is: load FILE
 gateway: line 37: no trace is being written: trace FILE begins one
 gateway: line 38: there is no command `open`; help tells those that there are
-gateway: line 39: `x` is too much on this line
-gateway: line 40: `now` is too much on this line
+gateway: line 39: `x` is too much; expected is: help [COMMAND]
+gateway: line 40: `now` is too much; expected is: quit
 END
 says 1 yard --script bad.script </dev/null
 echo "gateway: $(wc -l <"$work/complaints") bad commands, each told"
@@ -346,7 +365,16 @@ trace
 trace one.trace
 save a name with blanks
 load a name with blanks
+save my #2
+trace # ends it
+load a\033[31mname
+save yard.record.new
+save box
+load dddd
 END
+printf 'kept' >"$work/box.new"
+long=$(printf 'd/%.0s' {1..400})
+sed -i "s/^load dddd/load ${long//\//\\/}x/; s/\\\\033/\x1b/" "$work/files.script"
 cat >"$work/expected" <<'END'
 circuit: yard, 192 bytes, 5 blocks, 4 rows; cold start
 trace: one.trace
@@ -371,11 +399,17 @@ gateway: line 12: yard is there already and is not replaced: give the trace anot
 gateway: line 13: there/is/none cannot be made: No such file or directory; a trace needs the name of a file that is not there yet
 gateway: line 15: a trace is being written: trace alone ends it, then another can begin
 gateway: line 17: one.trace is there already and is not replaced: give the trace another name
+gateway: line 20: behind save no word may begin with #: a file's name is the rest of the line
+gateway: line 21: behind trace no word may begin with #: a file's name is the rest of the line
+gateway: line 22: a\x1b[31mname cannot be opened: No such file or directory; a file with a record is expected; the record is as it was
+gateway: line 23: yard.record.new ends in .new, as only the temporary file of a save does; another name is expected
+gateway: line 24: box is as it was: at its temporary name, with .new behind it, stands what no save has left; move that away
+gateway: line 25: ${long:0:48}..${long:753:47}x cannot be opened: No such file or directory; a file with a record is expected; the record is as it was
 END
 cp "$work/yard" "$work/yard.before"
 says 1 yard --script files.script </dev/null
-cmp "$work/yard" "$work/yard.before" || exit 1
-[ -z "$(find "$work" -name '*.new')" ] || { echo "gateway: a temporary file is left" && exit 1; }
+cmp "$work/yard" "$work/yard.before" || wrong "the circuit is changed"
+[ "$(cat "$work/box.new")" = kept ] && rm "$work/box.new" && [ -z "$(find "$work" -name '*.new')" ] || { echo "gateway: a temporary file is left, or another's is lost" && exit 1; }
 echo "gateway: $(wc -l <"$work/complaints") bad files and names, each told"
 
 # full CALL: the files of the gateway may have at most 1,024 bytes, as on a full disk
@@ -398,19 +432,39 @@ echo "gateway: a full disk"
 { printf 'trace yard.trace\n' && cat "$work/yard.script"; } >"$work/traced.script"
 sed -i '1a publish\nload yard.record\nrun 3' "$work/traced.script"
 (cd "$work" && run "$here/$gateway" yard --turn 2 --script traced.script >out 2>err)
-[ $? -eq 1 ] && [ "$(tail -n 1 "$work/yard.trace")" = . ] || exit 1
+[ $? -eq 1 ] && [ "$(tail -n 1 "$work/yard.trace")" = . ] || wrong "its trace has no end: $(cat "$work/err")"
 run $replay <"$work/yard.trace" >"$work/answers" || exit 1
 grep '^<' "$work/yard.trace" | cmp - "$work/answers" || { echo "gateway: its trace is played otherwise" && exit 1; }
 made=$(grep -c '^> ' "$work/yard.trace") answers=$(wc -l <"$work/answers") loads=$(grep -c '^> rec ' "$work/yard.trace")
-[ "$loads" -eq 2 ] && [ "$made" -eq $((answers + loads)) ] && grep -q '^< 22 ' "$work/answers" || exit 1
-# what the dialogue published is what its trace says: Q1 is the 29th word from the end, AQ1 the 9th
-[ "$(awk '$2 == 0 && last == "publish" { print $(NF - 27), $(NF - 7) } /^>/ { last = $2 }' "$work/yard.trace" | uniq | tr '\n' ' ')" = '1 700 0 -5 ' ] || exit 1
+[ "$loads" -eq 2 ] && [ "$made" -eq $((answers + loads)) ] && grep -q '^< 22 ' "$work/answers" || wrong "its trace lacks a call, an answer or a load"
+# what the dialogue published is what its trace says: Q1 is the 28th word from the end, AQ1 the 8th
+[ "$(awk '$2 == 0 && last == "publish" { print $(NF - 27), $(NF - 7) } /^>/ { last = $2 }' "$work/yard.trace" | uniq | tr '\n' ' ')" = '1 700 0 -5 ' ] || wrong "its trace has other outputs than it published"
 echo "gateway: a trace of $answers answers, played again"
 
-# ---- by the clock: the first latch has e 0, a later one what passed; no rest is lost
-{ printf 'latch\nrun\npublish\n' && sleep 2 && printf 'latch\nrun\npublish\nlatch\n'; } | run $gateway "$work/yard" >"$work/out" || exit 1
-e=($(sed -n 's/^latch: e \([0-9]*\) .*/\1/p' "$work/out"))
-[ "${e[0]}" -eq 0 ] && [ "${e[1]}" -ge 100 ] && [ "${e[1]}" -lt 3000 ] || { echo "gateway: by the clock e is ${e[*]}" && exit 1; }
+# ---- by the clock, here one that the test sets: the first latch has e 0, a later one what passed. A rest below a tick counts at the next
+# latch, a refused latch uses up nothing, more than e can be is told and dropped.
+build_c "$work/clocked" -Wl,--wrap=clock_gettime tests/clock.c $gateway_sources
+cat >"$work/expected" <<'END'
+circuit: yard, 192 bytes, 5 blocks, 4 rows; cold start
+scan 1 of 1: e 0 (0.00 s), 1 turn; AQ1 -5; changed: AQ1 0 -> -5
+scan 1 of 1: e 0 (0.00 s), 1 turn; AQ1 -5; nothing changed
+scan 1 of 1: e 1 (0.01 s), 1 turn; AQ1 -5; nothing changed
+scan 1 of 1: e 1 (0.01 s), 1 turn; AQ1 -5; nothing changed
+latch: the clock counted 4465 ticks more than e can be; they are not counted
+scan 1 of 1: e 65535 (10:55.35 min), 1 turn; AQ1 -5; nothing changed
+latch: e 1 (0.01 s); all inputs 0
+run: 5 blocks worked out, 0 to go
+publish: AQ1 -5; nothing changed
+scan 1 of 1: e 2 (0.02 s), 1 turn; AQ1 -5; nothing changed
+scan 1 of 1: e 5 (0.05 s), 1 turn; AQ1 -5; nothing changed
+scan 1 of 1: e 3 (0.03 s), 1 turn; AQ1 -5; nothing changed
+END
+printf 'gateway: line 7: latch is refused (22): a scan is open with 5 blocks to go; run, then publish\n' >"$work/complaints"
+printf '%s\n' scan scan scan scan scan latch latch run publish scan 'scan 5' scan |
+    CLOCK_MILLISECONDS='123456 123465 123474 123483 823476 823486 823496 823506 999999 1000029' run "$work/clocked" "$work/yard" 2>"$work/err" |
+    sed "s,^circuit: $work/,circuit: ," >"$work/out"
+diff "$work/expected" "$work/out" && diff "$work/complaints" "$work/err" || { echo "gateway: by the clock it is otherwise (above)" && exit 1; }
+echo "gateway: by the clock"
 
 # ---- at a terminal: a prompt, colour unless it is not wanted, no line numbers; in a pipe none of that
 cat >"$work/terminal.py" <<'END'
@@ -446,4 +500,6 @@ grep -q '^====>' "$work/seen" && ! grep -q $'\033' "$work/seen" || { echo "gatew
 tr ';' '\n' <<<"$dialogue" | run $gateway "$work/yard" >"$work/seen" 2>&1
 ! grep -q -e $'\033' -e 'gateway> ' "$work/seen" && grep -q '^gateway: line 4: ' "$work/seen" || { echo "gateway: in a pipe:" && cat -v "$work/seen" && exit 1; }
 echo "gateway: at a terminal and in a pipe"
-run $gateway --help | grep -q '^usage: gateway CIRCUIT' || exit 1
+for word in --help -h; do
+    run $gateway $word | grep -q '^usage: gateway CIRCUIT' || wrong "it has no help"
+done

@@ -57,10 +57,15 @@ show_progress() {
     cat >/dev/null
 }
 
+# what proves
+need_rt() {
+    command -v rt >/dev/null 2>&1 || { echo "host: the Rattle toolchain is needed to prove the $1, and its command rt is not found" >&2 && exit 2; }
+}
+
 # Makes the archive where it is missing or older than a source. SERIFDOVE_ARCHIVE names another one, taken as it is.
 need_archive() {
     if [ -z "${SERIFDOVE_ARCHIVE:-}" ] && is_stale "$archive"; then
-        command -v rt >/dev/null 2>&1 || { echo "host: the Rattle toolchain is needed to prove the archive, and its command rt is not found" >&2 && exit 2; }
+        need_rt archive
         echo "host: rt staticlib serifdove"
         rt staticlib serifdove 2>&1 </dev/null | tee "$work/archive" | show_progress
         [ "${PIPESTATUS[0]}" -eq 0 ] || { cat "$work/archive" && exit 1; }
@@ -73,6 +78,7 @@ need_archive() {
 program=target/bin/check_circuit
 need_program() {
     is_stale "$program" || return 0
+    need_rt program
     echo "host: rt check check_circuit"
     rt check check_circuit >"$work/program" 2>&1 </dev/null || { cat "$work/program" && exit 1; }
     touch "$program"

@@ -178,13 +178,17 @@ python3 tests/circuit_source.py "$work/bad.source" "$work/bad.circuit" 2>"$work/
 [ $? -eq 1 ] && [ ! -e "$work/bad.circuit" ] && [ "$(cut -d: -f2 "$work/errors" | tr '\n' ' ')" = '1 3 ' ] ||
     differs "$work/errors" "expected are faults in lines 1 and 3"
 printf '\377\n' >"$work/bytes.source"
-for words in "$work/bytes.source $work/bad.circuit" "$work/none.source $work/bad.circuit" \
-    "samples/harbour.source $work/none/harbour.circuit" "samples/harbour.source /dev/full"; do
-    python3 tests/circuit_source.py $words >"$work/line" 2>"$work/errors"
+# cannot SOURCE CIRCUIT: it is told, and nothing is written
+cannot() {
+    python3 tests/circuit_source.py "$@" >"$work/line" 2>"$work/errors"
     [ $? -eq 1 ] && [ ! -s "$work/line" ] && grep -q '^circuit_source: .*; expected ' "$work/errors" && [ ! -e "$work/bad.circuit" ] ||
-        differs "$work/errors" "no error for $words"
-done
+        differs "$work/errors" "no error for $*"
+}
+cannot "$work/bytes.source" "$work/bad.circuit"
+cannot "$work/none.source" "$work/bad.circuit"
+cannot samples/harbour.source "$work/none/harbour.circuit"
+cannot samples/harbour.source /dev/full
 python3 tests/circuit_source.py samples/harbour.source 2>"$work/errors"
 [ $? -eq 2 ] && grep -q '^usage: ' "$work/errors" || differs "$work/errors" "no usage is told"
-python3 tests/circuit_source.py --help | grep "^usage: " >/dev/null || exit 1
+python3 tests/circuit_source.py --help | grep "^usage: " >/dev/null || { echo "samples: the generator has no help" && exit 1; }
 echo "samples: $(grep -c '^refuses ' tests/samples.sh) sources with a fault"

@@ -618,7 +618,7 @@ static void judge_life(bool is_whole) {
 
 static void live(chance *with, char **gateway) {
     int pipe_end;
-    const bool is_whole = counted.lives < 3 || once_in(with, 8);
+    const bool by_chance = once_in(with, 8), is_whole = counted.lives < 3 || by_chance;
     counted.lives++;
     alarm(LONGEST_LIFE);
     has_leftover = is_saving();

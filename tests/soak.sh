@@ -1,8 +1,8 @@
 #!/usr/bin/env bash
 # The gateway, started over and over with circuits and commands by chance, and killed at any moment, most often while it saves: what it
 # prints is as expected, and no record file is ever torn, refused or another's. First it is tried whether a fault would be found.
-# bash tests/soak.sh [--minutes N] [--seed S]: longer (1 minute if none is named), or again what a seed gave. On a mismatch the files
-# are kept.
+# bash tests/soak.sh [--minutes N] [--seed S]: longer (1 minute if none is named), or again the circuits and commands that a seed gave;
+# the moments of the kills are others each time. On a mismatch the files are kept.
 source "$(dirname "${BASH_SOURCE[0]}")/host.bash"
 words=("$@")
 for ((i = 0; i < $#; i += 2)); do
