@@ -1,5 +1,4 @@
-/* The gateway's box: a circuit, its record, the inputs and outputs, and the calls on them, each of which goes to a trace while one is
-   written. */
+/* The gateway's box: a circuit, its record, inputs and outputs, and the calls on them, which go to a trace while one is written. */
 #ifndef BOX_H
 #define BOX_H
 

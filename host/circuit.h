@@ -1,5 +1,4 @@
-/* An accepted circuit laid out for people: its blocks with kind, inputs, parameters and label, its rows, and how all of them are named.
- */
+/* An accepted circuit laid out for people: its blocks with kind, inputs, parameters and label, and how all of that is named. */
 #ifndef CIRCUIT_H
 #define CIRCUIT_H
 
@@ -70,7 +69,7 @@ void lay_out(circuit *to, const uint8_t *bytes, size_t length);
 /* T of a delay. */
 int64_t ticks_of(const block *of);
 
-/* What the connector brings to a block or row, by the words of the record as they are; `unused` where it is unused. */
+/* What the connector brings to a block, by the words of the record as they are; `unused` where it is unused. */
 int32_t value_of(connector c, bool unused, const int32_t *record);
 
 /* ---- names, for printing */

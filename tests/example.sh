@@ -3,12 +3,7 @@
 # stands in the example, its table of words fits the header, its bytes are refused as it says, its dialogues are what the gateway program
 # prints, its trace plays. And it is complete: it has each name and number of the header, and each command that `help` tells.
 source "$(dirname "${BASH_SOURCE[0]}")/host.bash"
-need python3 python3
-need diff diffutils
-need_c
-need_archive
-build_replay
-build_gateway
+need_programs
 page=docs/OPERATING.md
 header=include/serifdove.h
 example=$work/example

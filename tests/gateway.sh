@@ -2,12 +2,7 @@
 # The gateway program as a user meets it: every command, every sort of bad word, circuit and file, a look between two blocks, a trace that is
 # played again, in a pipe and at a terminal.
 source "$(dirname "${BASH_SOURCE[0]}")/host.bash"
-need python3 python3
-need diff diffutils
-need_c
-need_archive
-build_replay
-build_gateway
+need_programs
 here=$PWD
 
 # wrong WHAT: tells it and ends
@@ -500,6 +495,27 @@ grep -q '^====>' "$work/seen" && ! grep -q $'\033' "$work/seen" || { echo "gatew
 tr ';' '\n' <<<"$dialogue" | run $gateway "$work/yard" >"$work/seen" 2>&1
 ! grep -q -e $'\033' -e 'gateway> ' "$work/seen" && grep -q '^gateway: line 4: ' "$work/seen" || { echo "gateway: in a pipe:" && cat -v "$work/seen" && exit 1; }
 echo "gateway: at a terminal and in a pipe"
+
+# ---- commands that break off in the middle of a line: that line is not carried out
+cat >"$work/broken.py" <<'END'
+import socket, struct, subprocess, sys
+listener = socket.create_server(("127.0.0.1", 0))
+ours = socket.create_connection(listener.getsockname())
+theirs, _ = listener.accept()
+child = subprocess.Popen(sys.argv[1:], stdin=theirs, stdout=subprocess.PIPE)
+theirs.close()
+ours.sendall(b"latch 1\nrun 1")
+seen = b""
+while b"latch: " not in seen:
+    seen += child.stdout.readline() or sys.exit("it ends before its first command")
+ours.setsockopt(socket.SOL_SOCKET, socket.SO_LINGER, struct.pack("ii", 1, 0))
+ours.close()  # the reader gets an error, not an end
+sys.stdout.buffer.write(seen + child.stdout.read())
+sys.exit(child.wait())
+END
+python3 "$work/broken.py" "${runner[@]}" $gateway "$work/yard" >"$work/out" 2>"$work/err"
+[ $? -eq 1 ] && grep -q 'latch: e 1 ' "$work/out" && ! grep -q 'run: ' "$work/out" && grep -q 'the commands cannot be read any further' "$work/err" ||
+    wrong "half a line: $(cat "$work/out" "$work/err")"
 for word in --help -h; do
     run $gateway $word | grep -q '^usage: gateway CIRCUIT' || wrong "it has no help"
 done

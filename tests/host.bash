@@ -104,6 +104,16 @@ build_gateway() {
     build_c $gateway $gateway_sources
 }
 
+# What a test of these programs needs: Python, diff and cmp, the compiler, the archive, the programs.
+need_programs() {
+    need python3 python3
+    need diff diffutils
+    need_c
+    need_archive
+    build_replay
+    build_gateway
+}
+
 # The demo's program, and the circuit that it plays.
 demo=target/host/demo
 demo_sources="host/demo.c host/box.c host/circuit.c host/refusals.c host/record_file.c host/files.c host/trace.c"

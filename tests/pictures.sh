@@ -3,12 +3,7 @@
 # the answers that stand in it, and tests/pictures.py draws NAME.svg from it, all to the byte; docs/OPERATING.md shows it.
 # `bash tests/pictures.sh anew` writes traces and pictures anew.
 source "$(dirname "${BASH_SOURCE[0]}")/host.bash"
-need python3 python3
-need cmp diffutils
-need_c
-need_archive
-build_replay
-build_gateway
+need_programs
 folder=docs/pictures
 names=$(python3 tests/pictures.py --names) || exit 1
 

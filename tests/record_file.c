@@ -584,21 +584,24 @@ static void forged(chance *with) {
 
 /* ---- what stands at FILE or beside it */
 
-/* A save that must be refused with such words; a load too. */
+/* What was done with the file must be refused with such words. */
+static void must_fail(bool done, const char *what, const char *name, const char *words, const message *why) {
+    if (done)
+        mismatch("%s %s is not refused", what, name);
+    if (strstr(why->text, words) == NULL)
+        mismatch("%s %s: '%s' is expected in: %s", what, name, words, why->text);
+}
+
 static void must_not_save(const char *name, const char *words) {
     message why = {""};
-    if (save(name, made.bytes, made.length, saved, words_of(&made), &why))
-        mismatch("saved to %s", name);
-    if (strstr(why.text, words) == NULL)
-        mismatch("saving to %s: '%s' is expected in: %s", name, words, why.text);
+    const bool done = save(name, made.bytes, made.length, saved, words_of(&made), &why);
+    must_fail(done, "saving to", name, words, &why);
 }
 
 static void must_not_load(const char *name, const char *words) {
     message why = {""};
-    if (load(name, made.bytes, made.length, loaded, words_of(&made), &why))
-        mismatch("loaded from %s", name);
-    if (strstr(why.text, words) == NULL)
-        mismatch("loading from %s: '%s' is expected in: %s", name, words, why.text);
+    const bool done = load(name, made.bytes, made.length, loaded, words_of(&made), &why);
+    must_fail(done, "loading from", name, words, &why);
 }
 
 /* A file with these bytes at FILE: not replaced. */

@@ -4,12 +4,7 @@
 # scan holds in walks with random inputs. All kinds and sorts of connectors occur, and each block matters to some output. What is wrong
 # in a source is told with its line.
 source "$(dirname "${BASH_SOURCE[0]}")/host.bash"
-need python3 python3
-need diff diffutils
-need_c
-need_archive
-build_gateway
-build_replay
+need_programs
 build_by_oracle "$work/by_oracle" $replay_sources
 build_c "$work/walks" tests/sample_walks.c tests/circuits.c host/files.c
 names=$(cd samples && ls -- *.source | sed 's/\.source$//') && [ -n "$names" ] || exit 1

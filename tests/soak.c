@@ -509,54 +509,44 @@ static bool is_a_command_line(const char *line) {
     return false;
 }
 
-/* How many of the expected lines were said, in this order. A line without its end is passed over; lines behind a look's first too. */
-static unsigned lines_said(void) {
+/* Gives each whole line of the file to the judge, without its end. A last line without its end is passed over. */
+static void judge_lines(const char *name, void (*judge)(const char *line)) {
     char *line = NULL;
     size_t room = 0;
     ssize_t length;
-    unsigned count = 0;
-    FILE *from = fopen("said", "r");
-    while (from != NULL && (length = getline(&line, &room, from)) >= 0) {
-        if (line[length - 1] != '\n')
-            break;
+    FILE *from = fopen(name, "r");
+    while (from != NULL && (length = getline(&line, &room, from)) >= 0 && line[length - 1] == '\n') {
         line[length - 1] = 0;
-        const bool in_look = count > 0 && expected[count - 1].how == LOOK;
-        if (in_look && !is_a_command_line(line))
-            continue;
-        if (count == expected_count)
-            mismatch("said: '%s'; nothing more is expected", line);
-        const char *text = expected[count].text;
-        if (expected[count].how == WHOLE ? strcmp(line, text) != 0 : strncmp(line, text, strlen(text)) != 0)
-            mismatch("said: '%s'; expected: '%s'", line, text);
-        count++;
+        judge(line);
     }
     if (from != NULL)
         fclose(from);
     free(line);
-    counted.lines += count;
-    return count;
 }
 
-/* How many of the refusals were told, in this order. */
-static unsigned refusals_told(void) {
-    char *line = NULL, text[64];
-    size_t room = 0;
-    ssize_t length;
-    unsigned count = 0;
-    FILE *from = fopen("errors", "r");
-    while (from != NULL && (length = getline(&line, &room, from)) >= 0) {
-        if (line[length - 1] != '\n')
-            break;
-        if (count == refused_count)
-            mismatch("told: '%s'; no refusal is expected", line);
-        snprintf(text, sizeof text, "gateway: line %u: ", refused[count++]);
-        if (strncmp(line, text, strlen(text)) != 0)
-            mismatch("told: '%s'; expected: '%s'", line, text);
-    }
-    if (from != NULL)
-        fclose(from);
-    free(line);
-    return count;
+/* How many of the expected lines were said, and of the refusals told, in their order. */
+static unsigned said, told;
+
+/* The next of the expected lines. Lines behind a look's first are passed over. */
+static void judge_said(const char *line) {
+    if (said > 0 && expected[said - 1].how == LOOK && !is_a_command_line(line))
+        return;
+    if (said == expected_count)
+        mismatch("said: '%s'; nothing more is expected", line);
+    const char *text = expected[said].text;
+    if (expected[said].how == WHOLE ? strcmp(line, text) != 0 : strncmp(line, text, strlen(text)) != 0)
+        mismatch("said: '%s'; expected: '%s'", line, text);
+    said++;
+}
+
+/* The next of the refusals. */
+static void judge_told(const char *line) {
+    char text[64];
+    if (told == refused_count)
+        mismatch("told: '%s'; no refusal is expected", line);
+    snprintf(text, sizeof text, "gateway: line %u: ", refused[told++]);
+    if (strncmp(line, text, strlen(text)) != 0)
+        mismatch("told: '%s'; expected: '%s'", line, text);
 }
 
 /* ---- what is in the files */
@@ -577,17 +567,17 @@ static void spoil(const char *name) {
         unlink(name);
 }
 
-/* The file holds what the last save that was told of left, or the one behind it; `told` saves were told of. */
-static void judge_file(unsigned file, unsigned told) {
+/* The file holds what the last save that was told of left, or the one behind it; `saves` were told of. */
+static void judge_file(unsigned file, unsigned saves) {
     static int32_t found[MOST_RECORD];
     const size_t size = words * sizeof *found;
     const int32_t *last = was_there[file] ? was[file] : NULL, *next = NULL;
     message why;
-    for (unsigned k = 1; k <= told; k++)
+    for (unsigned k = 1; k <= saves; k++)
         if (saved[k].file == file)
             last = saved[k].words;
-    if (told < saved_count && saved[told + 1].file == file)
-        next = saved[told + 1].words;
+    if (saves < saved_count && saved[saves + 1].file == file)
+        next = saved[saves + 1].words;
     spoil(file_names[file]);
     stored[file].is_there = is_there(file_names[file]);
     if (!stored[file].is_there && last != NULL)
@@ -602,8 +592,11 @@ static void judge_file(unsigned file, unsigned told) {
 }
 
 static void judge_life(bool is_whole) {
-    const unsigned said = lines_said(), told = refusals_told();
     unsigned saves = 0;
+    said = told = 0;
+    judge_lines("said", judge_said);
+    judge_lines("errors", judge_told);
+    counted.lines += said;
     for (unsigned i = 0; i < said; i++) {
         if (expected[i].save != 0)
             saves = expected[i].save;

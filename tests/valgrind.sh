@@ -5,11 +5,7 @@
 source "$(dirname "${BASH_SOURCE[0]}")/host.bash"
 [ "$emulated" = no ] || { echo "valgrind: only on x86-64" && exit 0; }
 need valgrind valgrind libc6-dbg
-need cmp diffutils
-need_c
-need_archive
-build_replay
-build_gateway
+need_programs
 here=$PWD
 
 # under PROGRAM WORD..: in the work folder, under valgrind; what it finds stands in `report`
