@@ -2,6 +2,8 @@
 ghost use mathlib.Core.Path.{_≡_};
 ghost use lib.ListN.{length};
 ghost use Rattle.circuit.specs.Circuit.{answerOf};
+ghost use Rattle.rows.specs.Reading.{readAnswer, circuitAfter};
+ghost use Rattle.rows.specs.Writing.{writeAnswer, textAfter};
 ghost use Rattle.calls.specs.Calls.{coldStart, warmStart, latch, run, publish, answerAfter, recordAfter, outputsAfter};
 use refusals::Answer;
 
@@ -57,4 +59,22 @@ pub extern "C" fn serifdove_publish(circuit: &[u8], rec: &mut [i32], outs: &mut 
         × (now (outs .exit) ≡ outputsAfter (now (circuit .entry)) (publish (length (now (outs .entry)))) (now (rec .entry)) (now (outs .entry))) ⌝ }
 {
     scan::publish(circuit, rec, outs)
+}
+
+// Reads a supplier's rows as a circuit.
+#[no_mangle]
+pub extern "C" fn serifdove_read_rows(text: &[u8], circuit: &mut [u8]) -> Answer
+    ensures { λ r. ⌜ (r ≡ readAnswer (now (text .entry)) (length (now (circuit .entry))))
+        × (now (circuit .exit) ≡ circuitAfter (now (text .entry)) (now (circuit .entry))) ⌝ }
+{
+    reading::read_rows(text, circuit)
+}
+
+// Writes an accepted circuit as rows.
+#[no_mangle]
+pub extern "C" fn serifdove_write_rows(circuit: &[u8], text: &mut [u8]) -> Answer
+    ensures { λ r. ⌜ (r ≡ writeAnswer (now (circuit .entry)) (length (now (text .entry))))
+        × (now (text .exit) ≡ textAfter (now (circuit .entry)) (now (text .entry))) ⌝ }
+{
+    writing::write_rows(circuit, text)
 }

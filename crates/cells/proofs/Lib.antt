@@ -1,0 +1,4 @@
+pub mod Laws
+pub mod Again
+pub mod Within
+pub mod Cases

@@ -1,0 +1,9 @@
+pub mod Passed
+pub mod Rules
+pub mod Sizes
+pub mod Counting
+pub mod Judging
+pub mod Labels
+pub mod Putting
+pub mod Surveying
+pub mod Answering

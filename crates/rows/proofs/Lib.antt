@@ -1,0 +1,10 @@
+pub mod Widths
+pub mod Entries
+pub mod Said
+pub mod Laid
+pub mod Text
+pub mod Fine
+pub mod Outcome
+pub mod Again
+pub mod Formed
+pub mod Starred
