@@ -18,13 +18,6 @@ enum { MOST_STACK = 16 * 1024 };
 
 /* ---- tasks */
 
-static size_t refusals; /* none is expected where time is measured */
-
-static serifdove_answer told(serifdove_answer answer) {
-    refusals += answer.number != 0;
-    return answer;
-}
-
 static size_t words_of(const subject *on) { return SERIFDOVE_RECORD_WORDS(on->c->n); }
 
 static void check(const side *by, subject *on) { told(by->check(on->c->bytes, on->length)); }
@@ -187,8 +180,6 @@ static size_t report_stack(void) {
 }
 
 /* ---- the whole */
-
-static const char *reached(bool yes) { return yes ? "reached" : "not reached"; }
 
 int main(void) {
     for (unsigned s = 0; s < SIZES; s++)

@@ -7,6 +7,10 @@
 #include <sys/mman.h>
 #include <time.h>
 
+size_t refusals;
+
+const char *reached(bool yes) { return yes ? "reached" : "not reached"; }
+
 /* ---- time */
 
 enum { ROUNDS = 15, ROUND_NANOSECONDS = 10000000, MOST_TIMES = 100000 };

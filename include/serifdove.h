@@ -9,7 +9,8 @@
 extern "C" {
 #endif
 
-/* The numbers that an answer can begin with. The first field with a fault is named, with the lowest number that holds for it. */
+/* The numbers that an answer can begin with. The first field with a fault is named, with the lowest number that holds for it; of a
+   text the first row with a fault, likewise. */
 enum serifdove_number {
     /* no number below holds */
     SERIFDOVE_ACCEPTED = 0,
@@ -47,7 +48,19 @@ enum serifdove_number {
     /* latch: not 32 input words, or a digital one, an analog one or e out of range */
     SERIFDOVE_INPUT_WORDS = 23,
     /* publish: not 28 output words */
-    SERIFDOVE_OUTPUT_WORDS = 24
+    SERIFDOVE_OUTPUT_WORDS = 24,
+
+    /* a quote is not closed, is followed by a stray byte, or stands in a cell that does not begin with one */
+    SERIFDOVE_QUOTE = 30,
+    /* a row's tag is not 16 or 48, its kind is unknown, or its number of cells is wrong */
+    SERIFDOVE_TAG_KIND_OR_COLUMNS = 31,
+    /* a cell is not a number, or its number is too large for its place; a label mark is not 0 or 1, a label stands behind mark 0,
+       or has more than 16 bytes */
+    SERIFDOVE_NUMBER_OR_LABEL = 32,
+    /* the lent slice has no room for what is to be written */
+    SERIFDOVE_NO_ROOM = 33,
+    /* more than 400 rows are blocks */
+    SERIFDOVE_TOO_MANY_BLOCKS = 34
 };
 
 /* What a call answers: four numbers. */
@@ -55,7 +68,7 @@ typedef struct {
     /* one of serifdove_number */
     size_t number;
     /* for 1 to 10 the offset of the faulty field's first byte (the length, where 1 finds no field); for 11 that of the first
-       surplus byte; else 0 */
+       surplus byte; for 30 to 32 the row, counted from 1; else 0 */
     size_t place;
     /* on refusal 0; else what the call says */
     size_t first;
@@ -153,6 +166,35 @@ serifdove_answer serifdove_run(const uint8_t *circuit, size_t circuit_len, int32
    blocks stay. */
 serifdove_answer serifdove_publish(const uint8_t *circuit, size_t circuit_len, int32_t *record, size_t record_len, int32_t *outputs,
                                    size_t outputs_len);
+
+/* ---- rows: a circuit as text, by RFC 4180
+
+   A text is bytes. A row begins wherever bytes are left behind the row before, so an empty text has no rows; it is cells parted by
+   commas, and ends with LF, with CRLF, or with the text. A cell that begins with a quote ends with the next quote that is not
+   doubled, and two quotes in it stand for one; it may hold commas and line ends. Every other cell holds all bytes up to a comma, a line
+   end or the end of the text; a CR without LF is one of them. A blank line is a row of one empty cell.
+
+   A block is the row   16, kind, options, class and number of each input, each parameter, mark, label
+   and an output row    48, class, number, class and number of its connector
+   where the mark is 1, or 0 with an empty label. Numbers are decimal digits, with any number of zeros in front, and a minus may stand
+   before a parameter; classes, numbers and parameters are those of the circuit's bytes, inversion as 128 more in the class.
+
+   Lengths count bytes. A null pointer with length 0 is an empty slice. The two slices of a call may not overlap. A call reads and
+   writes nothing outside them, never writes the first, and keeps nothing between calls: calls that write to different slices may run
+   in any number of threads at once. On refusal the second slice stays as it was. */
+
+/* Reads a text's rows into a circuit: header, the fields of each row in turn (a block's, then its label's where the mark is 1), end.
+   Refused by 30, 31 and 32, the first row with a fault, with the lowest number that holds for it; where no row has one by 34; then by
+   33, exactly when the fields need more than circuit_len bytes.
+   Accepted: first is how many bytes were written, second how many rows were read; the bytes behind stay. Whether the circuit is a
+   good one is for serifdove_check to say. */
+serifdove_answer serifdove_read_rows(const uint8_t *text, size_t text_len, uint8_t *circuit, size_t circuit_len);
+
+/* Writes a circuit's blocks and rows as a text, a row each, in order. Refused by 1 to 11 for the circuit, as by check and with
+   check's place; then by 33, exactly when the text needs more than text_len bytes.
+   Accepted: first is how many bytes were written, second how many rows; the bytes behind stay. Numbers have no zeros in front, each row
+   ends with CRLF, and a cell is quoted only if it holds a comma, a quote, CR or LF. Read again, the text gives the circuit's bytes. */
+serifdove_answer serifdove_write_rows(const uint8_t *circuit, size_t circuit_len, uint8_t *text, size_t text_len);
 
 #ifdef __cplusplus
 }

@@ -54,12 +54,7 @@ const kind_rule oracle_kind_rules[KINDS + 1] = {
 
 static bool is_known_kind(unsigned kind) { return 1 <= kind && kind <= KINDS; }
 
-/* Kind and options, three bytes a connector, four a parameter. */
-static size_t content_length(const kind_rule *rule) { return 2 + 3 * (rule->digital + rule->analog) + 4 * rule->parameters; }
-
 /* ---- fields, decoded */
-
-enum { HEADER = 0x01, BLOCK = 0x10, LABEL = 0x20, ROW = 0x30, END = 0x7F };
 
 typedef struct {
     unsigned tag;
@@ -213,7 +208,7 @@ static set source_numbers(const known_circuit *so_far, const row *r) {
 
 static set row_numbers(const known_circuit *so_far, const field *f, row *r) {
     set held = when(!so_far->has_header, 2) | when(so_far->blocks < so_far->n, 4);
-    if (f->length != 5)
+    if (f->length != ROW_CONTENT)
         return held | ONE(2);
     *r = row_at(f->content);
     const bool known = 1 <= r->number && r->number <= destinations(so_far->limits, r->class);
@@ -236,7 +231,7 @@ static set header_numbers(const known_circuit *so_far, const field *f) {
 }
 
 static set label_numbers(const known_circuit *so_far, const field *f) {
-    return when(!so_far->behind_block || f->length > 16, 2);
+    return when(!so_far->behind_block || f->length > MOST_LABEL, 2);
 }
 
 static set end_numbers(const known_circuit *so_far, const field *f) {

@@ -14,6 +14,12 @@ static inline unsigned two_at(const uint8_t *bytes) { return (unsigned)bytes[0] 
 
 static inline int32_t four_at(const uint8_t *bytes) { return (int32_t)((uint32_t)two_at(bytes) << 16 | two_at(bytes + 2)); }
 
+/* ---- fields */
+
+enum { HEADER = 0x01, BLOCK = 0x10, LABEL = 0x20, ROW = 0x30, END = 0x7F };
+
+enum { ROW_CONTENT = 5, ROW_FIELD = 3 + ROW_CONTENT, MOST_LABEL = 16 }; /* bytes */
+
 /* ---- the kinds */
 
 enum {
@@ -49,6 +55,9 @@ typedef struct {
 } kind_rule;
 
 extern const kind_rule oracle_kind_rules[KINDS + 1];
+
+/* Of a block's content: kind and options, three bytes a connector, four a parameter. */
+static inline size_t content_length(const kind_rule *rule) { return 2 + 3 * (rule->digital + rule->analog) + 4 * rule->parameters; }
 
 /* A block's parameter i, from 0, in its content. */
 static inline int32_t parameter_at(const kind_rule *rule, const uint8_t *content, unsigned i) {
@@ -92,8 +101,6 @@ typedef struct {
     const uint8_t *contents[MOST_BLOCKS + 1]; /* of the blocks so far, by number */
     const uint8_t *first_row;                 /* its content; the rows stand behind one another */
 } known_circuit;
-
-enum { ROW_FIELD = 8 }; /* bytes */
 
 /* Judges a circuit and fills in what is known of it: all that there is, where it is accepted. */
 serifdove_answer oracle_judge(known_circuit *so_far, const oracle_limits *limits, const uint8_t *circuit, size_t length);

@@ -1,4 +1,4 @@
-/* A second program, written from document 01 alone: the proved calls are compared with it, in answers, in words and in speed. */
+/* A second program, written from the papers alone: the proved calls are compared with it, in answers, in words and in speed. */
 #ifndef ORACLE_H
 #define ORACLE_H
 
@@ -27,5 +27,9 @@ serifdove_answer oracle_latch(const uint8_t *circuit, size_t circuit_len, int32_
 serifdove_answer oracle_run(const uint8_t *circuit, size_t circuit_len, int32_t *record, size_t record_len, uint32_t c);
 serifdove_answer oracle_publish(const uint8_t *circuit, size_t circuit_len, int32_t *record, size_t record_len, int32_t *outputs,
                                 size_t outputs_len);
+
+/* What serifdove_read_rows and serifdove_write_rows must answer, and what they must leave in the second slice. */
+serifdove_answer oracle_read_rows(const uint8_t *text, size_t text_len, uint8_t *circuit, size_t circuit_len);
+serifdove_answer oracle_write_rows(const uint8_t *circuit, size_t circuit_len, uint8_t *text, size_t text_len);
 
 #endif

@@ -88,8 +88,8 @@ finds_fault refused 'scan 5: record word the output of B1 open_press: the refuse
 finds_fault yard 'scan 5: Q1 door motor UP is 0; worked out by hand it is 1'
 
 # another circuit with the same labels is told where it publishes otherwise: here the lane runs on for 4 s
-sed 's/T=3\.00s/T=4.00s/' samples/harbour.source >"$work/other.source"
-python3 tests/circuit_source.py "$work/other.source" "$work/other" || exit 1
+sed 's/,300,1,lane/,400,1,lane/' samples/harbour.csv >"$work/other.csv"
+make_circuit "$work/other.csv" "$work/other"
 run $demo "$work/other" >/dev/null 2>"$work/errors"
 [ $? -eq 1 ] && grep -qx 'demo: scan 11: Q3 lane 1 runs is 1; worked out by hand it is 0' "$work/errors" || wrong "a lane of 4 s: $(cat "$work/errors")"
 
@@ -99,16 +99,16 @@ cannot() {
     [ $? -eq 2 ] && [ ! -s "$work/told" ] && grep -qF "$1" "$work/errors" || wrong "no message '$1' for: ${*:2}: $(cat "$work/told" "$work/errors")"
 }
 
-sed '/^block *stay/d; /^row *Q8/d' samples/harbour.source >"$work/short.source"
-sed 's/clear/cleared/' samples/harbour.source >"$work/named.source"
+sed '/,stay/d; /^48,1,8,/d' samples/harbour.csv >"$work/short.csv"
+sed 's/,clear/,cleared/' samples/harbour.csv >"$work/named.csv"
 for name in short named; do
-    python3 tests/circuit_source.py "$work/$name.source" "$work/$name" || exit 1
+    make_circuit "$work/$name.csv" "$work/$name"
 done
 { cat $harbour && printf 'x'; } >"$work/surplus"
 head -c 65537 /dev/zero >"$work/long"
 : >"$work/empty"
-cannot "has 14 blocks; the story is of samples/harbour.source, which has 15" "$work/short"
-cannot "block 3 is 'cleared'; the story is of samples/harbour.source, where it is 'clear'" "$work/named"
+cannot "has 14 blocks; the story is of samples/harbour.csv, which has 15" "$work/short"
+cannot "block 3 is 'cleared'; the story is of samples/harbour.csv, where it is 'clear'" "$work/named"
 cannot "is refused." "$work/surplus"
 cannot "Refusal 11 at byte $(wc -c <$harbour): bytes follow the end field" "$work/surplus"
 cannot "Refusal 1 at byte 0: " "$work/empty"
@@ -128,7 +128,7 @@ run $demo $harbour >/dev/full 2>"$work/errors"
 run $demo --help | grep -q '^usage: demo ' || wrong "no help"
 
 ./demo --help | grep -q '^usage: ./demo' || wrong "./demo --help has no help"
-for words in --hel '' '--help x' samples/harbour.source; do
+for words in --hel '' '--help x' samples/harbour.csv; do
     ./demo "$words" >"$work/told" 2>"$work/errors"
     [ $? -eq 2 ] && [ ! -s "$work/told" ] && grep -q '^usage: ./demo' "$work/errors" || wrong "./demo $words is no error"
 done

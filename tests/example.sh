@@ -45,22 +45,22 @@ printf '%b' "$(tr -d '\n' <"$work/escaped")" >"$work/own_block.circuit"
     done
 } | prints "$work/document_01.circuit" 0 || exit 1
 
-cat >"$work/delays.source" <<'END'
-block  delay   on_delay     Trg=I1 T=1.00s
-block  value   multiplexer  En=I1 S1=lo S2=I2 V1=1 V2=-250 V3=3 V4=4
-block  third   NOT  I1
-block  fourth  NOT  third
-block  fifth   NOT  fourth
-block  sixth   NOT  fifth
-block  seventh NOT  sixth
-block  eighth  NOT  seventh
-block  ninth   NOT  eighth
-block  last    AND  eighth delay
-row  Q1   last
-row  Q20  delay
-row  AQ8  value
+cat >"$work/delays.csv" <<'END'
+16,9,0,1,1,0,100,1,delay
+16,15,0,1,1,2,0,1,2,1,-250,3,4,1,value
+16,8,0,1,1,1,third
+16,8,0,6,3,1,fourth
+16,8,0,6,4,1,fifth
+16,8,0,6,5,1,sixth
+16,8,0,6,6,1,seventh
+16,8,0,6,7,1,eighth
+16,8,0,6,8,1,ninth
+16,1,0,6,8,6,1,0,0,0,0,1,last
+48,1,1,6,10
+48,1,20,6,1
+48,3,8,9,2
 END
-python3 tests/circuit_source.py "$work/delays.source" "$work/delays.circuit" || exit 1
+make_circuit "$work/delays.csv" "$work/delays.circuit"
 {
     echo '10 blocks, 3 rows'
     for scan in 1:0 2:0 3:1 4:1; do
@@ -116,8 +116,8 @@ in_work() {
     (cd "$work" && run "$root/$1" "${@:2}")
 }
 
-block source 1 >"$work/door.source"
-python3 tests/circuit_source.py "$work/door.source" "$work/door.circuit" || exit 1
+block csv 1 >"$work/door.csv"
+make_circuit "$work/door.csv" "$work/door.circuit"
 [ "$(blocks terminal)" -eq 2 ] || wrong "$page has not two dialogues"
 for k in 1 2; do
     block terminal $k >"$work/dialogue"

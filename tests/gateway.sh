@@ -98,18 +98,18 @@ complains 2 'The bytes end here, after 0 of them.' empty
 echo "gateway: $refused refused circuits, each with number, place, bytes and what to do"
 
 # ---- a dialogue, worked out by hand: each command, a scan in turns, a look between two blocks
-cat >"$work/yard.source" <<'END'
-block press AND_edge          I1
-block lane  off_delay         retentive Trg=press R=!I2 T=3.00s
-block bits  shift_register    In=I1 Trg=I2 Dir=lo index=1 bit=1
-block level threshold_trigger Ax=AI1 A=-33 B=10 On=5 Off=4
-block speed multiplexer       En=hi S1=lane S2=- V1=-5 V2=0 V3=700 V4=9  label "a\b,ü"
-row Q1 lane
-row M1 level
-row AQ1 speed
-row AM1 AI1
+cat >"$work/yard.csv" <<'END'
+16,2,0,1,1,0,0,0,0,0,0,1,press
+16,10,1,6,1,129,2,0,300,1,lane
+16,12,0,1,1,1,2,2,0,1,1,1,bits
+16,13,0,7,1,-33,10,5,4,1,level
+16,15,0,3,0,6,2,0,0,-5,0,700,9,1,"a\b,ü"
+48,1,1,6,2
+48,2,1,6,4
+48,3,1,9,5
+48,4,1,7,1
 END
-python3 tests/circuit_source.py "$work/yard.source" "$work/yard" || exit 1
+make_circuit "$work/yard.csv" "$work/yard"
 cat >"$work/yard.script" <<'END'
 # a comment, then an empty line
 
@@ -333,7 +333,7 @@ END
 says 1 yard --script lines.script </dev/null
 
 # ---- files: what is no record of this circuit is refused, and what stands at a name is kept
-python3 tests/circuit_source.py samples/harbour.source "$work/harbour" || exit 1
+make_circuit samples/harbour.csv "$work/harbour"
 printf 'save harbour.record\n' | (cd "$work" && run "$here/$gateway" harbour) >/dev/null || exit 1
 sed 's/^\(record .* \)1\(.*\)$/\10\2/' "$work/yard.record" >"$work/damaged.record"
 sed 's/ 1$/ 2/;q' "$work/yard.record" >"$work/version.record"

@@ -1,4 +1,5 @@
-/* A host in C11 or C++17, with nothing but the header: document 01's circuit of 34 bytes, checked and run for a scan. */
+/* A host in C11 or C++17, with nothing but the header: document 01's circuit of 34 bytes, checked, run for a scan, written out as rows
+   and read again. */
 #include "serifdove.h"
 
 #include <assert.h>
@@ -24,6 +25,11 @@ static_assert(SERIFDOVE_INPUT_I(1) == 0 && SERIFDOVE_INPUT_I(23 + 1) == 23, "I a
 static_assert(SERIFDOVE_INPUT_AI(1) == 24 && SERIFDOVE_INPUT_AI(7 + 1) == 31, "AI among the inputs");
 static_assert(SERIFDOVE_Q(1) == 0 && SERIFDOVE_Q(19 + 1) == 19, "Q");
 static_assert(SERIFDOVE_AQ(1) == 20 && SERIFDOVE_AQ(7 + 1) == 27, "AQ");
+
+/* ---- the numbers of document 02 */
+
+static_assert(SERIFDOVE_QUOTE == 30 && SERIFDOVE_TAG_KIND_OR_COLUMNS == 31 && SERIFDOVE_NUMBER_OR_LABEL == 32, "rows");
+static_assert(SERIFDOVE_NO_ROOM == 33 && SERIFDOVE_TOO_MANY_BLOCKS == 34, "all rows");
 
 static const uint8_t circuit[34] = {
     0x01, 0x00, 0x03, 0x01, 0x00, 0x01,                                                                   /* header, n 1 */
@@ -88,11 +94,53 @@ static void scan_it(void) {
            SERIFDOVE_RECORD_NOT_SOUND, 0, 0, 0);
 }
 
+/* ---- rows */
+
+static const char door[] = "16,8,0,129,3,1,\"Door 3, north\"\r\n";
+static uint8_t text[64], read_again[64];
+
+static serifdove_answer read_text(const char *rows, uint8_t *to, size_t room) {
+    return serifdove_read_rows((const uint8_t *)rows, strlen(rows), to, room);
+}
+
+static void write_and_read_it(void) {
+    const size_t bytes = 39;
+    expect("write", serifdove_write_rows(circuit, sizeof circuit, text, sizeof text), SERIFDOVE_ACCEPTED, 0, bytes, 2);
+    expect_word("text written", memcmp(text, "16,1,0,1,1,1,2,0,0,0,0,0,\r\n48,1,1,6,1\r\n", bytes), 0);
+    expect("read", serifdove_read_rows(text, bytes, read_again, sizeof read_again), SERIFDOVE_ACCEPTED, 0, sizeof circuit, 2);
+    expect_word("circuit read", memcmp(read_again, circuit, sizeof circuit), 0);
+    expect("write, cut", serifdove_write_rows(circuit, sizeof circuit - 1, text, sizeof text), SERIFDOVE_CUT_SHORT, 31, 0, 0);
+    expect("write, room short by one", serifdove_write_rows(circuit, sizeof circuit, text, bytes - 1), SERIFDOVE_NO_ROOM, 0, 0, 0);
+    expect("write, null", serifdove_write_rows(circuit, sizeof circuit, NULL, 0), SERIFDOVE_NO_ROOM, 0, 0, 0);
+}
+
+static void read_rows(void) {
+    expect("read, null", serifdove_read_rows(NULL, 0, read_again, 9), SERIFDOVE_ACCEPTED, 0, 9, 0);
+    expect("read, no room", serifdove_read_rows(NULL, 0, NULL, 0), SERIFDOVE_NO_ROOM, 0, 0, 0);
+    expect("read, a comma in a label", read_text(door, read_again, 33), SERIFDOVE_ACCEPTED, 0, 33, 1);
+    expect_word("label read", memcmp(read_again + 14, "\040\0\015Door 3, north", 16), 0);
+    expect("read, room short by one", read_text(door, read_again, 32), SERIFDOVE_NO_ROOM, 0, 0, 0);
+    expect("read, quote", read_text("48,1,1,6,1\n\"", read_again, 64), SERIFDOVE_QUOTE, 2, 0, 0);
+    expect("read, columns", read_text("48,1,1,6\n", read_again, 64), SERIFDOVE_TAG_KIND_OR_COLUMNS, 1, 0, 0);
+    expect("read, number", read_text("48,1,1,6,x\n", read_again, 64), SERIFDOVE_NUMBER_OR_LABEL, 1, 0, 0);
+}
+
+static void read_too_many(void) {
+    static const char one[] = "16,8,0,1,1,0,\n";
+    static uint8_t many[(SERIFDOVE_MOST_BLOCKS + 1) * (sizeof one - 1)];
+    for (size_t i = 0; i < sizeof many; i++)
+        many[i] = (uint8_t)one[i % (sizeof one - 1)];
+    expect("read, too many", serifdove_read_rows(many, sizeof many, NULL, 0), SERIFDOVE_TOO_MANY_BLOCKS, 0, 0, 0);
+}
+
 int main(void) {
     memset(outputs, -1, sizeof outputs);
     check_it();
     start_it();
     scan_it();
+    write_and_read_it();
+    read_rows();
+    read_too_many();
     if (failures == 0) {
         const serifdove_answer a = serifdove_check(circuit, sizeof circuit);
         printf("%zu %zu %zu %zu\n", a.number, a.place, a.first, a.second);

@@ -1,5 +1,6 @@
 #!/usr/bin/env bash
-# The header alone, as C11 and as C++17; then a host in each that links the archive, checks document 01's circuit and runs it for a scan.
+# The header alone, as C11 and as C++17; then a host in each that links the archive, checks document 01's circuit, runs it for a scan, writes
+# it out as rows and reads them.
 source "$(dirname "${BASH_SOURCE[0]}")/host.bash"
 need_c
 need_cxx

@@ -7,7 +7,7 @@ trap 'rm -rf "$work"' EXIT
 
 warnings="-Wall -Wextra -Werror -pedantic"
 archive=${SERIFDOVE_ARCHIVE:-target/staticlib/libserifdove.a}
-oracle="oracle/check.c oracle/rules.c oracle/scan.c"
+oracle="oracle/check.c oracle/rules.c oracle/scan.c oracle/rows.c"
 if [ "$(uname -m)" = x86_64 ]; then
     emulated=no
     cc=gcc cxx=g++
@@ -92,11 +92,19 @@ build_c() {
 # The host's programs, made in target/host.
 replay=target/host/replay
 replay_sources="host/replay.c host/trace.c"
+circuit_file="host/circuit_file.c host/row_text.c host/refusals.c host/circuit.c host/files.c"
+rows=target/host/rows
+rows_sources="host/rows.c $circuit_file"
 gateway=target/host/gateway
-gateway_sources="host/gateway.c host/box.c host/look.c host/circuit.c host/words.c host/refusals.c host/record_file.c host/files.c host/trace.c"
+gateway_sources="host/gateway.c host/box.c host/look.c host/words.c host/record_file.c host/trace.c $circuit_file"
 build_replay() {
     mkdir -p target/host
     build_c $replay $replay_sources
+}
+
+build_rows() {
+    mkdir -p target/host
+    build_c $rows $rows_sources
 }
 
 build_gateway() {
@@ -111,23 +119,30 @@ need_programs() {
     need_c
     need_archive
     build_replay
+    build_rows
     build_gateway
+}
+
+# make_circuit CSV CIRCUIT: by the program rows
+make_circuit() {
+    run $rows "$1" "$2" >"$work/made" || exit 1
 }
 
 # The demo's program, and the circuit that it plays.
 demo=target/host/demo
-demo_sources="host/demo.c host/box.c host/circuit.c host/refusals.c host/record_file.c host/files.c host/trace.c"
+demo_sources="host/demo.c host/box.c host/record_file.c host/trace.c $circuit_file"
 harbour=target/host/harbour.circuit
 build_demo() {
     mkdir -p target/host
     build_c $demo $demo_sources
-    python3 tests/circuit_source.py samples/harbour.source $harbour || exit 1
+    build_rows
+    make_circuit samples/harbour.csv $harbour
 }
 
 # build_by_oracle OUT FILE..: a program of these C files, with the oracle's calls for the archive's
 build_by_oracle() {
     local call by_the_oracle=()
-    for call in check cold_start warm_start latch run publish; do
+    for call in check cold_start warm_start latch run publish read_rows write_rows; do
         by_the_oracle+=("-Dserifdove_$call=oracle_$call")
     done
     $cc -std=c11 $warnings -O2 -Iinclude -Ioracle "${by_the_oracle[@]}" -o "$1" "${@:2}" $oracle || exit 1

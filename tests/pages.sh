@@ -14,7 +14,7 @@ for page in README.md samples/README.md docs/*.md docs/landings/*.md; do
     case $page in docs/landings/*) continue ;; esac # a landing tells what stood then
     while read -r file; do
         [ -e "$file" ] || { echo "pages: $page: there is no $file" && bad=1; }
-    done < <(grep -o -E '\b(tests|host|oracle|bench|include|samples|docs)/[a-z_0-9/]*\.(sh|py|c|h|md|source|day|trace|svg)\b' "$page" | sort -u)
+    done < <(grep -o -E '\b(tests|host|oracle|bench|include|samples|docs)/[a-z_0-9/]*\.(sh|py|c|h|md|csv|day|trace|svg)\b' "$page" | sort -u)
 done
 [ "$links" -ge 20 ] || { echo "pages: only $links links were found" && bad=1; }
 [ "$bad" -eq 0 ] || exit 1

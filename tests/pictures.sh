@@ -1,5 +1,5 @@
 #!/usr/bin/env bash
-# The pictures of docs/pictures, NAME by NAME: the gateway program makes NAME.trace of NAME.source and NAME.script, the player of traces gives
+# The pictures of docs/pictures, NAME by NAME: the gateway program makes NAME.trace of NAME.csv and NAME.script, the player of traces gives
 # the answers that stand in it, and tests/pictures.py draws NAME.svg from it, all to the byte; docs/OPERATING.md shows it.
 # `bash tests/pictures.sh anew` writes traces and pictures anew.
 source "$(dirname "${BASH_SOURCE[0]}")/host.bash"
@@ -9,8 +9,7 @@ names=$(python3 tests/pictures.py --names) || exit 1
 
 # make_trace NAME: in the work folder. The gateway's status is 1 where a script has calls that are refused.
 make_trace() {
-    python3 tests/circuit_source.py "$folder/$1.source" "$work/circuit" || exit 1
-    { echo "trace $work/$1.trace" && cat "$folder/$1.script"; } | run $gateway "$work/circuit" >"$work/printed" 2>&1
+    { echo "trace $work/$1.trace" && cat "$folder/$1.script"; } | run $gateway "$folder/$1.csv" >"$work/printed" 2>&1
     [ "${PIPESTATUS[1]}" -le 1 ] || { cat "$work/printed" && exit 1; }
 }
 
@@ -32,7 +31,7 @@ fi
 
 python3 tests/pictures.py "$work" || exit 1
 for name in $names; do
-    same "$name.trace" "the gateway program makes of its source and script"
+    same "$name.trace" "the gateway program makes of its rows and script"
     run $replay <"$folder/$name.trace" | cmp - <(grep '^<' "$folder/$name.trace") || { echo "pictures: the player answers $name.trace otherwise" && exit 1; }
     same "$name.svg" "tests/pictures.py draws from its trace"
     python3 -c 'import sys, xml.dom.minidom as dom; dom.parse(sys.argv[1])' "$folder/$name.svg" || exit 1

@@ -15,8 +15,7 @@ import re
 import sys
 
 sys.dont_write_bytecode = True
-from circuit_bytes import BLOCK, INPUTS_OF, ROW, connectors_of, fields_of  # noqa: E402
-from circuit_source import ANALOG_BLOCK, DIGITAL_BLOCK, INVERTED, RETENTIVE  # noqa: E402
+from circuit_bytes import ANALOG_BLOCK, BLOCK, DIGITAL_BLOCK, INPUTS_OF, INVERTED, RETENTIVE, ROW, connectors_of, fields_of  # noqa: E402
 
 FIRST_INPUT_WORD = 4
 INPUTS = [f"I{k}" for k in range(1, 25)]

@@ -4,8 +4,9 @@
 
 const side sides[SIDES] = {
     [ARCHIVE] = {"archive", serifdove_check, serifdove_cold_start, serifdove_warm_start, serifdove_latch, serifdove_run,
-                 serifdove_publish},
-    [ORACLE] = {"oracle", oracle_check, oracle_cold_start, oracle_warm_start, oracle_latch, oracle_run, oracle_publish},
+                 serifdove_publish, serifdove_read_rows, serifdove_write_rows},
+    [ORACLE] = {"oracle", oracle_check, oracle_cold_start, oracle_warm_start, oracle_latch, oracle_run, oracle_publish,
+                oracle_read_rows, oracle_write_rows},
 };
 
 bool same_answer(serifdove_answer a, serifdove_answer b) {

@@ -13,6 +13,8 @@ typedef serifdove_answer latch_function(const uint8_t *circuit, size_t circuit_l
 typedef serifdove_answer run_function(const uint8_t *circuit, size_t circuit_len, int32_t *record, size_t record_len, uint32_t c);
 typedef serifdove_answer publish_function(const uint8_t *circuit, size_t circuit_len, int32_t *record, size_t record_len,
                                           int32_t *outputs, size_t outputs_len);
+/* read_rows and write_rows: from the first slice to the second */
+typedef serifdove_answer rows_function(const uint8_t *from, size_t from_len, uint8_t *to, size_t to_len);
 
 typedef struct {
     const char *name;
@@ -21,6 +23,7 @@ typedef struct {
     latch_function *latch;
     run_function *run;
     publish_function *publish;
+    rows_function *read_rows, *write_rows;
 } side;
 
 enum { ARCHIVE, ORACLE, SIDES };

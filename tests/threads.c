@@ -1,11 +1,12 @@
-/* The calls keep nothing between them: two threads, each on a record of its own, get the same answers and leave the same words as one
-   after the other.
+/* The calls keep nothing between them: two threads, each on a record and a text of its own, get the same answers and leave the same
+   words and bytes as one after the other.
 
    threads [SEED] [COUNT]      COUNT pairs of plays, 150 if none is named
    threads --self-test NAME    the calls are made wrong in the way named; this must be found
    threads --self-test-names   the names of these ways */
 #define _POSIX_C_SOURCE 200809L
 #include "records.h"
+#include "row_texts.h"
 #include "sides.h"
 
 #include <inttypes.h>
@@ -48,16 +49,28 @@ static serifdove_answer kept_answer_run(const uint8_t *circuit, size_t circuit_l
     return (serifdove_answer){kept.number, 0, kept.first, kept.second};
 }
 
+/* Wrong: the text goes through memory that all threads share. */
+static serifdove_answer staged_write_rows(const uint8_t *circuit, size_t circuit_len, uint8_t *text, size_t text_len) {
+    static uint8_t staged_text[TEXT_ROOM];
+    const serifdove_answer answer = serifdove_write_rows(circuit, circuit_len, staged_text, text_len);
+    sched_yield();
+    memcpy(text, staged_text, answer.first);
+    return answer;
+}
+
 static bool share_record;
 
+/* Calls that are not named stay as they are. */
 static const struct {
     const char *name;
     run_function *run;
+    rows_function *write_rows;
     bool share_record;
 } wrong[] = {
-    {"record_kept_between", staged_run, false},
-    {"answer_kept_between", kept_answer_run, false},
-    {"one_record_for_both", serifdove_run, true},
+    {"record_kept_between", staged_run, NULL, false},
+    {"answer_kept_between", kept_answer_run, NULL, false},
+    {"text_kept_between", NULL, staged_write_rows, false},
+    {"one_record_for_both", NULL, NULL, true},
 };
 
 /* ---- a play: calls by chance on one record */
@@ -66,6 +79,7 @@ typedef struct {
     const circuit *on;
     uint64_t seed;
     int32_t own_record[MOST_RECORD], *record, outputs[SERIFDOVE_OUTPUT_WORD_COUNT];
+    uint8_t text[TEXT_ROOM], read[LONGEST_CIRCUIT];
     /* what each call answered and left, as one number */
     uint64_t left[CALLS_OF_A_PLAY];
     /* how many calls are made; how many while the other play was under way */
@@ -94,6 +108,14 @@ static serifdove_answer some_latch(play *p, chance *with) {
                        random_e(p->on, with, p->record));
 }
 
+/* The circuit is written out and read again; what is written goes into the answer. */
+static serifdove_answer both_on_rows(play *p) {
+    const serifdove_answer written = calls.write_rows(p->on->bytes, p->on->length, p->text, sizeof p->text);
+    serifdove_answer answer = calls.read_rows(p->text, written.first, p->read, sizeof p->read);
+    answer.place += mixed_in(mixed_in(written.second, p->text, written.first), p->read, answer.first);
+    return answer;
+}
+
 /* Most often the call that suits the phase, in turns of any length. */
 static serifdove_answer some_call(play *p, chance *with) {
     const uint8_t *bytes = p->on->bytes;
@@ -101,7 +123,7 @@ static serifdove_answer some_call(play *p, chance *with) {
     const bool in_scan = p->record[SERIFDOVE_PHASE] == 1, done = p->record[SERIFDOVE_DONE] == (int32_t)p->on->n;
     switch (below(with, 16)) {
     case 0:
-        return calls.check(bytes, length);
+        return once_in(with, 4) ? both_on_rows(p) : calls.check(bytes, length);
     case 1:
         return calls.warm_start(bytes, length, p->record, words);
     case 2:
@@ -183,7 +205,8 @@ static void begin_plays(chance *with, bool one_circuit) {
 static bool make_wrong(const char *name) {
     for (size_t i = 0; i < sizeof wrong / sizeof *wrong; i++)
         if (strcmp(wrong[i].name, name) == 0) {
-            calls.run = wrong[i].run;
+            calls.run = wrong[i].run != NULL ? wrong[i].run : calls.run;
+            calls.write_rows = wrong[i].write_rows != NULL ? wrong[i].write_rows : calls.write_rows;
             share_record = wrong[i].share_record;
             return true;
         }

@@ -5,7 +5,7 @@
 source "$(dirname "${BASH_SOURCE[0]}")/host.bash"
 need_c
 need_archive
-build_c "$work/threads" tests/threads.c tests/sides.c tests/records.c tests/circuits.c $oracle
+build_c "$work/threads" tests/threads.c tests/row_texts.c tests/sides.c tests/records.c tests/circuits.c $oracle
 
 names=$(run "$work/threads" --self-test-names) && [ -n "$names" ] || exit 1
 finds "$work/threads" 'threads: mismatch: ' $names

@@ -1,6 +1,6 @@
 #!/usr/bin/env bash
 # The host's programs under valgrind, on x86-64: the player on the stored trace, the gateway with every command, with circuits that are
-# refused and files that are no record. No byte that is not theirs is read or written, no word that was never set is used, no memory is
+# refused and files that are no record, the reader of rows on good and bad ones. No byte that is not theirs is read or written, no word that was never set is used, no memory is
 # lost. First it is tried whether a fault would be found.
 source "$(dirname "${BASH_SOURCE[0]}")/host.bash"
 [ "$emulated" = no ] || { echo "valgrind: only on x86-64" && exit 0; }
@@ -168,4 +168,59 @@ done
 for words in long 'script --turn'; do
     watched 2 "$here/$gateway" $words </dev/null
 done
+
+# ---- rows: good ones forth, back and trimmed, and by the gateway; each fault; what cannot be read or written
+for name in harbour coldstore; do
+    watched 0 "$here/$rows" "$here/samples/$name.csv" $name.circuit
+    watched 0 "$here/$rows" --back $name.circuit $name.csv
+    watched 0 "$here/$rows" --trim $name.csv $name.trimmed.csv
+    cmp samples/$name.csv "$work/$name.trimmed.csv" || { echo "valgrind: the rows of $name come back otherwise" && exit 1; }
+done
+watched 0 "$here/$gateway" "$here/samples/coldstore.csv" </dev/null
+while IFS= read -r text; do
+    printf '%b' "$text" >"$work/bad.csv"
+    watched 1 "$here/$rows" bad.csv bad.circuit
+    rm -f "$work/bad_trimmed.csv"
+    watched 0 "$here/$rows" --trim bad.csv bad_trimmed.csv
+done <<'END'
+16,8,0,0,0,1,"a
+16,8,0,0,0,1,"
+16,8,0,0,0,1,"a"b
+16,8,0,0,0,1,a"
+16
+16,
+16,99
+,,,,
+\xef\xbb\xbf
+\xef\xbb\xbf16,8,0,0,0,0,
+\xff
+48
+48,1,1,3,0,,,,
+48,1,1,3,"0",,,,,,,,,,,,,,,,,,,,,,,
+48,1,1,3,99999999999999999999999999
+16,9,0,1,1,0,-,0,
+16,9,0,1,1,0,1,0,x
+16,9,0,1,1,0,1,1,"""""""""""""""""""""""""""""""""""
+16,9,0,1,1,0,1,001,0,
+"",""
+48,1,1,3,0,""
+48,1,1,3,"0","",""""
+16,8,0,0,0,0,\r
+16;8
+1\x006\x00
+48,1,1,6,1
+48,3,1,"3","0"
+48,9,1,3,0
+48,1,1,3,0\n16,8,0,0,0,0,
+16,8,0,6,1,0,
+16,8,1,0,0,0,
+16,9,0,1,1,3,20000,0,
+16,15,0,0,0,0,0,0,0,0,0,0,40000,0,
+END
+watched 2 "$here/$gateway" bad.csv </dev/null
+watched 2 "$here/$rows"
+watched 2 "$here/$rows" missing.csv x
+watched 2 "$here/$rows" bad.csv x.csv
+watched 2 "$here/$rows" --back missing x.csv
+watched 2 "$here/$rows" --back harbour.circuit harbour.csv
 echo "valgrind: $runs runs, nothing found"
