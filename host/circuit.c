@@ -39,7 +39,7 @@ int64_t ticks_of(const block *of) {
 
 enum { INVERTED = 0x80, RETENTIVE = 1, CONNECTOR_BYTES = 3, PARAMETER_BYTES = 4 };
 
-static size_t count_of(const char *const *names) {
+size_t count_of(const char *const *names) {
     size_t count = 0;
     while (count < MOST_OF_A_BLOCK && names[count] != NULL)
         count++;

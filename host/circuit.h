@@ -60,6 +60,9 @@ typedef struct {
 const kind *kind_of(unsigned number);
 bool is_delay(unsigned kind_number);
 
+/* How many of these inputs or parameters a kind has. */
+size_t count_of(const char *const *names);
+
 /* How many bytes of content a block of this kind has. */
 size_t block_length(const kind *k);
 

@@ -3,6 +3,7 @@
    compared. */
 #define _POSIX_C_SOURCE 200809L
 #include "box.h"
+#include "circuit_file.h"
 #include "refusals.h"
 
 #include <inttypes.h>
@@ -12,7 +13,7 @@
 #include <unistd.h>
 
 static const char usage[] = "usage: demo CIRCUIT [--break FAULT]\n"
-                            "Plays a truck's visit at dock door 3 on the circuit of samples/harbour.source, scan by scan.\n"
+                            "Plays a truck's visit at dock door 3 on the circuit of samples/harbour.csv, scan by scan.\n"
                             "--break FAULT is for the test: the program meets this fault on purpose, and must tell it.\n"
                             "  reading   in scan 7 the second record reads another I6\n"
                             "  output    in scan 5 an output word changes before the publish\n"
@@ -614,10 +615,10 @@ static void tell_end(void) {
 /* The circuit is the one that the story is of, as far as its labels tell. */
 static bool is_harbour(const circuit *c, const char *path, message *why) {
     if (c->n != BLOCKS)
-        return fail(why, "%s has %u blocks; the story is of samples/harbour.source, which has %d", path, c->n, BLOCKS);
+        return fail(why, "%s has %u blocks; the story is of samples/harbour.csv, which has %d", path, c->n, BLOCKS);
     for (unsigned k = 1; k <= BLOCKS; k++)
         if (strcmp(label_of(&c->block[k]).text, labels[k - 1]) != 0)
-            return fail(why, "%s: block %u is '%s'; the story is of samples/harbour.source, where it is '%s'", path, k,
+            return fail(why, "%s: block %u is '%s'; the story is of samples/harbour.csv, where it is '%s'", path, k,
                         label_of(&c->block[k]).text, labels[k - 1]);
     return true;
 }
@@ -625,20 +626,10 @@ static bool is_harbour(const circuit *c, const char *path, message *why) {
 /* Opens a box with the circuit of this file. On false what is to be told is told. */
 static bool open_with(box *b, const char *path) {
     message why;
-    uint8_t *bytes;
-    size_t length;
-    if (!read_file(path, "a circuit", MOST_CIRCUIT_BYTES, &bytes, &length, &why)) {
-        fprintf(stderr, "demo: %s\n", why.text);
+    circuit_bytes c;
+    if (take_circuit("demo", path, &c) != CIRCUIT_TAKEN)
         return false;
-    }
-    const serifdove_answer answer = serifdove_check(bytes, length);
-    if (answer.number != SERIFDOVE_ACCEPTED) {
-        fprintf(stderr, "demo: %s is refused.\n", path);
-        tell_refused_circuit(stderr, answer, bytes, length);
-        free(bytes);
-        return false;
-    }
-    if (!open_box(b, bytes, length))
+    if (!open_box(b, c.bytes, c.length))
         fail(&why, "there is no memory for the record of %s", path);
     else if (is_harbour(&b->circuit, path, &why))
         return true;

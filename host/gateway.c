@@ -2,6 +2,7 @@
    blocks. */
 #define _POSIX_C_SOURCE 200809L
 #include "box.h"
+#include "circuit_file.h"
 #include "look.h"
 #include "record_file.h"
 #include "refusals.h"
@@ -18,6 +19,7 @@
 
 static const char usage[] = "usage: gateway CIRCUIT [--turn N] [--script FILE]\n"
                             "Judges the circuit in the file CIRCUIT, begins with a cold start, and takes commands, one a line.\n"
+                            "A file whose name ends in .csv holds the circuit as rows (docs/ROWS.md), any other its bytes.\n"
                             "  --turn N       a turn works out N blocks, 1 to 4294967295, or all; without it, all\n"
                             "  --script FILE  takes the commands from FILE instead of standard input\n"
                             "The command `help` tells the commands. Status 0: all were carried out; 1: some were not;\n"
@@ -595,23 +597,14 @@ static FILE *open_commands(void) {
 
 /* Reads and judges the circuit, and starts. */
 static void begin(const char *path) {
-    uint8_t *bytes;
-    size_t length;
-    message why;
-    if (!read_file(path, "a circuit", MOST_CIRCUIT_BYTES, &bytes, &length, &why))
-        cannot_begin(why.text);
-    const serifdove_answer answer = serifdove_check(bytes, length);
-    if (answer.number != SERIFDOVE_ACCEPTED) {
-        fprintf(stderr, "gateway: the circuit in %s is refused.\n", shown(path).text);
-        tell_refused_circuit(stderr, answer, bytes, length);
-        free(bytes);
+    circuit_bytes c;
+    if (take_circuit("gateway", path, &c) != CIRCUIT_TAKEN)
         exit(CANNOT_GO_ON);
-    }
-    if (!open_box(&gateway, bytes, length))
+    if (!open_box(&gateway, c.bytes, c.length))
         cannot_begin("there is no memory for the record");
     cold_start(&gateway);
-    printf("circuit: %s, %zu bytes, %zu block%s, %zu row%s; cold start\n", shown(path).text, length, answer.first, plural(answer.first),
-           answer.second, plural(answer.second));
+    printf("circuit: %s, %zu bytes, %zu block%s, %zu row%s; cold start\n", shown(path).text, c.length, c.blocks, plural(c.blocks),
+           c.rows, plural(c.rows));
 }
 
 static void end(void) {

@@ -1,17 +1,10 @@
-#define _DEFAULT_SOURCE
 #include "record_file.h"
 #include "serifdove.h"
 
-#include <errno.h>
-#include <fcntl.h>
 #include <inttypes.h>
 #include <stdio.h>
 #include <stdlib.h>
 #include <string.h>
-#include <sys/file.h>
-#include <sys/stat.h>
-#include <time.h>
-#include <unistd.h>
 
 static const char head[] = "serifdove record ", sum_head[] = "sum ";
 
@@ -66,185 +59,18 @@ static char *text_of(const uint8_t *circuit, size_t circuit_len, const int32_t *
     return text;
 }
 
-/* ---- saving: the files */
+/* ---- saving: the file */
 
-static bool not_saved(const char *path, const char *what, message *why) {
-    const char *error = strerror(errno);
-    return fail(why, "%s is as it was: %s: %s", shown(path).text, what, error);
-}
-
-static bool is_file(int file) {
-    struct stat about;
-    return fstat(file, &about) == 0 && S_ISREG(about.st_mode);
-}
-
-/* Whether the open file begins as a record file does; `cut` takes one that ends within that too. */
-static bool begins_as_record(int file, bool cut) {
-    char first[sizeof head - 1];
-    const ssize_t count = pread(file, first, sizeof first, 0);
-    return count >= 0 && (cut || count == sizeof first) && memcmp(first, head, (size_t)count) == 0;
-}
-
-/* Whether nothing stands at FILE, or a record file of any version. */
-static bool may_be_replaced(const char *path, message *why) {
-    static const char expected[] = "is not replaced; a record file or a name that is free is expected";
-    const int file = open(path, O_RDONLY | O_NONBLOCK | O_NOFOLLOW | O_CLOEXEC);
-    if (file < 0 && errno == ENOENT)
-        return true;
-    if (file < 0)
-        return errno == ELOOP ? fail(why, "%s is a link and %s", shown(path).text, expected)
-                              : not_saved(path, "it cannot be opened", why);
-    const bool plain = is_file(file), is_record = plain && begins_as_record(file, false);
-    close(file);
-    if (!is_record)
-        return fail(why, "%s is %s and %s", shown(path).text, plain ? "no record file" : "not a file", expected);
-    return true;
-}
-
-/* Opens the folder that FILE stands in. */
-static int open_folder(const char *path) {
-    const char *slash = strrchr(path, '/');
-    const size_t length = slash == NULL ? 0 : (size_t)(slash - path) + 1;
-    char *folder = malloc(length + sizeof ".");
-    if (folder == NULL)
-        return -1;
-    memcpy(folder, path, length);
-    memcpy(folder + length, ".", sizeof ".");
-    const int opened = open(folder, O_RDONLY | O_DIRECTORY | O_CLOEXEC);
-    free(folder);
-    return opened;
-}
-
-/* Locks the file. Who holds it is waited for, two seconds at most. */
-static bool lock(int file) {
-    enum { MOST_TIMES = 200 };
-    static const struct timespec hundredth = {.tv_nsec = 10000000};
-    int status = flock(file, LOCK_EX | LOCK_NB);
-    for (unsigned times = 0; status != 0 && (errno == EWOULDBLOCK || errno == EINTR) && times < MOST_TIMES; times++) {
-        nanosleep(&hundredth, NULL);
-        status = flock(file, LOCK_EX | LOCK_NB);
-    }
-    return status == 0;
-}
-
-/* Whether the open file stands under this name. */
-static bool stands_at(int file, const char *path) {
-    struct stat own, there;
-    return fstat(file, &own) == 0 && lstat(path, &there) == 0 && own.st_dev == there.st_dev && own.st_ino == there.st_ino;
-}
-
-/* Opens the temporary file and locks it: who saves to the same FILE waits. What was renamed while the lock was awaited is left alone
-   and the next one opened; each time another has saved. On -1 errno tells why: EEXIST where no save can have left what stands there. */
-static int open_locked(const char *temporary) {
-    enum { MOST_TIMES = 10000 };
-    for (unsigned times = 0; times < MOST_TIMES; times++) {
-        const int file = open(temporary, O_RDWR | O_CREAT | O_NOFOLLOW | O_NONBLOCK | O_CLOEXEC, 0644);
-        if (file < 0)
-            return -1;
-        const bool plain = is_file(file), locked = plain && lock(file), own = locked && stands_at(file, temporary);
-        const int error = plain && !own ? errno : EEXIST;
-        if (own && begins_as_record(file, true))
-            return file;
-        close(file);
-        errno = error;
-        if (!locked || own)
-            return -1;
-    }
-    errno = EBUSY;
-    return -1;
-}
-
-static bool not_opened(const char *path, message *why) {
-    switch (errno) {
-    case EWOULDBLOCK:
-        return not_saved(path, "another program is saving to it, and does not end", why);
-    case EEXIST:
-    case ELOOP:
-    case EISDIR:
-        return fail(why, "%s is as it was: at its temporary name, with .new behind it, stands what no save has left; move that away",
-                    shown(path).text);
-    default:
-        return not_saved(path, "its temporary file (.new) cannot be opened and locked", why);
-    }
-}
-
-static bool write_whole(int file, const char *bytes, size_t length) {
-    while (length > 0) {
-        const ssize_t count = write(file, bytes, length);
-        if (count < 0 && errno != EINTR)
-            return false;
-        if (count > 0) {
-            bytes += count;
-            length -= (size_t)count;
-        }
-    }
-    return true;
-}
-
-static bool sync_whole(int file) {
-    int status;
-    do
-        status = fsync(file);
-    while (status != 0 && errno == EINTR);
-    return status == 0;
-}
-
-/* Fills the locked temporary file and gives it FILE's name; where that fails, it is removed. */
-static bool fill_and_rename(int file, const char *temporary, const char *path, const char *text, size_t length, message *why) {
-    const char *what = NULL;
-    if (ftruncate(file, 0) != 0)
-        what = "its temporary file (.new) cannot be emptied";
-    else if (!write_whole(file, text, length))
-        what = "its temporary file (.new) cannot be written";
-    else if (!sync_whole(file))
-        what = "its temporary file (.new) cannot be synced";
-    else if (rename(temporary, path) != 0)
-        what = "its temporary file (.new) cannot be renamed";
-    if (what == NULL)
-        return true;
-    not_saved(path, what, why);
-    unlink(temporary);
-    return false;
-}
-
-/* Puts the text at FILE, whole. A folder on a file system that cannot sync one is not synced. */
-static bool put_file(const char *path, const char *temporary, const char *text, size_t length, message *why) {
-    const int folder = open_folder(path);
-    if (folder < 0)
-        return not_saved(path, "its folder cannot be opened", why);
-    const int file = open_locked(temporary);
-    bool saved = file >= 0 ? fill_and_rename(file, temporary, path, text, length, why) : not_opened(path, why);
-    if (saved && !sync_whole(folder) && errno != EINVAL)
-        saved = fail(why, "%s is this record, but its folder cannot be synced: %s; if power fails now, it may be the one before",
-                     shown(path).text, strerror(errno));
-    if (file >= 0)
-        close(file);
-    close(folder);
-    return saved;
-}
+static const file_sort record_files = {"record file", "record", {head}, sizeof head - 1, true};
 
 bool save_record(const char *path, const uint8_t *circuit, size_t circuit_len, const int32_t *record, size_t record_len, message *why) {
-    static const char behind[] = ".new";
     if (record_len > MOST_WORDS)
         return fail(why, "%s is as it was: a record has at most %d words, this one has %zu", shown(path).text, MOST_WORDS, record_len);
-    if (path[0] == 0)
-        return fail(why, "the name of a file is expected");
-    const size_t path_len = strlen(path), behind_len = sizeof behind - 1;
-    if (path_len >= behind_len && strcmp(path + path_len - behind_len, behind) == 0)
-        return fail(why, "%s ends in .new, as only the temporary file of a save does; another name is expected", shown(path).text);
-    if (!may_be_replaced(path, why))
-        return false;
     size_t length = 0;
-    char *text = text_of(circuit, circuit_len, record, record_len, &length), *temporary = malloc(path_len + sizeof behind);
-    bool saved = false;
-    if (text != NULL && temporary != NULL) {
-        memcpy(temporary, path, path_len);
-        memcpy(temporary + path_len, behind, sizeof behind);
-        saved = put_file(path, temporary, text, length, why);
-    } else {
-        not_saved(path, "there is no memory", why);
-    }
-    free(temporary);
+    char *text = text_of(circuit, circuit_len, record, record_len, &length);
+    if (text == NULL)
+        return fail(why, "%s is as it was: there is no memory", shown(path).text);
+    const bool saved = write_file(path, &record_files, text, length, why);
     free(text);
     return saved;
 }

@@ -11,11 +11,7 @@
 
 #include "files.h"
 
-/* Writes the record to the file. It is written under a temporary name beside it (FILE.new), synced and renamed: whenever power or
-   process ends, FILE is the one before or this one, whole. What a save left at FILE.new is overwritten; anything else there is not, and
-   a FILE that ends in .new is refused. Who saves to the same FILE is waited for, two seconds at most. A file at FILE that is no record
-   file is not replaced. On false FILE is as it was, but where the message says that its folder cannot be synced: then it is this
-   record, and may be the one before once power has failed. */
+/* Writes the record to the file, whole or not at all (write_file). A file there that is no record file is not replaced. */
 bool save_record(const char *path, const uint8_t *circuit, size_t circuit_len, const int32_t *record, size_t record_len, message *why);
 
 /* Takes the record from the file, if it is one, whole, of this circuit, of this length, and sound for it. On false the record stays. */

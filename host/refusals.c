@@ -21,7 +21,7 @@ static const words refusals[] = {
     [SERIFDOVE_OWN_OR_LATER_BLOCK] = {"the block names itself or a later block",
                                       "let it name an earlier block, or take the value over a flag"},
     [SERIFDOVE_PARAMETER] = {"a parameter is out of range",
-                             "compare the block's parameters with their ranges (docs/OPERATING.md, Limits)"},
+                             "compare the block's parameters with their ranges (docs/OPERATING.md, Limits; of rows: docs/ROWS.md)"},
     [SERIFDOVE_DESTINATION] = {"the row's destination is unknown or used twice",
                                "there are Q1 to Q20, M1 to M64, AQ1 to AQ8 and AM1 to AM64; give each one row at most"},
     [SERIFDOVE_INDEX_USED_TWICE] = {"the shift register's index is used twice", "give each shift register an index of its own, 1 to 4"},
@@ -33,6 +33,15 @@ static const words refusals[] = {
     [SERIFDOVE_INPUT_WORDS] = {"not 32 input words, or one of them or e is out of range",
                                "I1 to I24 are 0 or 1, AI1 to AI8 are 0 to 1000, e is 0 to 65535"},
     [SERIFDOVE_OUTPUT_WORDS] = {"not 28 output words", "lend 28 output words"},
+    [SERIFDOVE_QUOTE] = {"a quote is not closed, is followed by a stray byte, or stands in a cell that does not begin with one",
+                         "put a cell that holds a comma, a quote or a line end in quotes, and write each quote inside it twice"},
+    [SERIFDOVE_TAG_KIND_OR_COLUMNS] = {"the tag or the kind is unknown, or the number of cells is wrong",
+                                       "compare the row with the columns of its kind (docs/ROWS.md)"},
+    [SERIFDOVE_NUMBER_OR_LABEL] = {"a cell is not a number, or a number or label does not fit its place",
+                                   "mend that cell; docs/ROWS.md tells what each column takes"},
+    [SERIFDOVE_NO_ROOM] = {"there is no room for what is to be written",
+                           "a circuit has at most 400 blocks and 156 output rows: look for rows that do not belong there"},
+    [SERIFDOVE_TOO_MANY_BLOCKS] = {"more than 400 rows are blocks", "split the circuit: it has at most 400 blocks"},
 };
 
 static words words_of(size_t number) {
@@ -81,6 +90,12 @@ static unsigned blocks_before(const uint8_t *bytes, size_t place) {
     for (size_t at = 0; at < place; at += FIELD_HEAD + content_length(bytes + at))
         count += bytes[at] == BLOCK_TAG;
     return count;
+}
+
+void tell_block(FILE *to, const uint8_t *bytes, size_t length, size_t place) {
+    const kind *k = kind_at(bytes + place, length - place);
+    if (k != NULL)
+        fprintf(to, "  It is block %u, kind %u, %s.\n", blocks_before(bytes, place) + 1, bytes[place + FIELD_HEAD], k->name);
 }
 
 static void tell_field(FILE *to, const uint8_t *bytes, size_t length, size_t place) {

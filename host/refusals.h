@@ -13,4 +13,7 @@ const char *refusal_cure(size_t number);
 /* Tells why check refused these bytes: number, place, meaning, the field that begins there, the bytes around it, and the cure. */
 void tell_refused_circuit(FILE *to, serifdove_answer answer, const uint8_t *bytes, size_t length);
 
+/* Tells which block begins at this place, if one does. */
+void tell_block(FILE *to, const uint8_t *bytes, size_t length, size_t place);
+
 #endif
