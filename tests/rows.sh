@@ -370,35 +370,33 @@ build_c "$work/messages" $row_messages
 run "$work/messages" 1 20000 || exit 1
 
 # ---- trimmed
+
+# trims NAME TAKEN: NAME.csv is trimmed to trimmed.expected; it is told so what was taken away, and what was left
+trims() {
+    echo "$1_trimmed.csv: $(wc -c <"$work/trimmed.expected") bytes; taken away: $2" >"$work/expected"
+    says 0 --trim "$1.csv" "$1_trimmed.csv"
+    cmp "$work/trimmed.expected" "$work/$1_trimmed.csv" || wrong "$1.csv is trimmed otherwise"
+}
+
 printf '\xef\xbb\xbf16,8,0,0,0,0,,,,,\r\n"16",9,0,1,1,0,3,1,"a,b",,\r\n16,9,0,1,1,0,3,1,a, b,,\n,,,,,,,\r\n48,1,1,3,0,,,,\n\n48,1,1,3,0,x\n48,1,1,3,"0",,' >"$work/padded.csv"
 printf '16,8,0,0,0,0,\r\n"16",9,0,1,1,0,3,1,"a,b"\r\n16,9,0,1,1,0,3,1,a, b,,\n48,1,1,3,0\n48,1,1,3,0,x\n48,1,1,3,"0"' >"$work/trimmed.expected"
 printf '' >"$work/complaints"
-echo "trimmed.csv: $(wc -c <"$work/trimmed.expected") bytes; taken away: a byte order mark, 2 blank rows, empty cells behind 4 rows" >"$work/expected"
-says 0 --trim padded.csv trimmed.csv
-cmp "$work/trimmed.expected" "$work/trimmed.csv" || wrong "it is trimmed otherwise"
+trims padded 'a byte order mark, 2 blank rows, empty cells behind 4 rows'
 printf '48,1,1,3,0,,\n16,8,0,0,0,1,a"b,,\n\n48,1,1,3,0,,\n' >"$work/quote.csv"
 printf '48,1,1,3,0\n16,8,0,0,0,1,a"b,,\n\n48,1,1,3,0,,\n' >"$work/trimmed.expected"
-echo "quote_trimmed.csv: $(wc -c <"$work/trimmed.expected") bytes; taken away: no byte order mark, 0 blank rows, empty cells behind 1 row" >"$work/expected"
-says 0 --trim quote.csv quote_trimmed.csv
-cmp "$work/trimmed.expected" "$work/quote_trimmed.csv" || wrong "behind a quote it is trimmed otherwise"
+trims quote 'no byte order mark, 0 blank rows, empty cells behind 1 row'
 for text in all.csv labels.csv empty.csv; do
     in_work $rows --trim $text "same_$text" && cmp "$work/$text" "$work/same_$text" || wrong "$text is changed by trimming"
 done
 # empty cells in quotes; cells that hold quotes alone are not empty
 printf '"16","8","0","0","0","1","","",""\n"48","1","1","3","0","",""\n48,1,1,3,0,"""",\n"",""\n""\n' >"$work/quoted.csv"
 printf '"16","8","0","0","0","1",""\n"48","1","1","3","0"\n48,1,1,3,0,"""",\n' >"$work/trimmed.expected"
-echo "quoted_trimmed.csv: $(wc -c <"$work/trimmed.expected") bytes; taken away: no byte order mark, 2 blank rows, empty cells behind 2 rows" >"$work/expected"
-says 0 --trim quoted.csv quoted_trimmed.csv
-cmp "$work/trimmed.expected" "$work/quoted_trimmed.csv" || wrong "empty cells in quotes are trimmed otherwise"
+trims quoted 'no byte order mark, 2 blank rows, empty cells behind 2 rows'
 # what stays, as it could say something else then: a blank row before a block, empty cells behind a label 0 or 1
 printf '16,8,0,1,1,0,,\n,,,\n16,8,0,6,1,0,\n\n16,9,0,1,1,0,1,001,0,\n\n48,1,1,6,2,,\n,,\n' >"$work/left.csv"
 printf '16,8,0,1,1,0,\n,,,\n16,8,0,6,1,0,\n\n16,9,0,1,1,0,1,001,0,\n48,1,1,6,2\n' >"$work/trimmed.expected"
-cat >"$work/expected" <<END
-left_trimmed.csv: $(wc -c <"$work/trimmed.expected") bytes; taken away: no byte order mark, 2 blank rows, empty cells behind 2 rows
-left as they were: 3 rows, where a block may be missing or a comma may part a number; reading tells which
-END
-says 0 --trim left.csv left_trimmed.csv
-cmp "$work/trimmed.expected" "$work/left_trimmed.csv" || wrong "rows are not left as they were"
+trims left 'no byte order mark, 2 blank rows, empty cells behind 2 rows
+left as they were: 3 rows, where a block may be missing or a comma may part a number; reading tells which'
 printf ',,\n16,8,0,0,0,1,a"b\n' >"$work/behind.csv"
 in_work $rows --trim behind.csv behind_trimmed.csv && cmp "$work/behind.csv" "$work/behind_trimmed.csv" || wrong "a blank row before a row that cannot be read is taken away"
 # every row filled up with empty cells to the widest, as spreadsheet programs write them

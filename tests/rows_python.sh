@@ -7,15 +7,13 @@ need_c
 need_archive
 build_c "$work/rows_calls" tests/rows_calls.c
 
+# it calls the archive by the program that is built here
+cat >"$work/rows_python" <<END
+#!/usr/bin/env bash
+exec python3 tests/rows_python.py "\$@" ${runner[*]} $work/rows_calls
+END
+chmod +x "$work/rows_python"
+runner=()
 names=$(python3 tests/rows_python.py --self-test-names) && [ -n "$names" ] || exit 1
-for name in $names; do
-    python3 tests/rows_python.py --self-test "$name" "${runner[@]}" "$work/rows_calls" >"$work/found" 2>&1
-    status=$?
-    if [ "$status" -ne 1 ] || ! grep -q '^rows_python: mismatch: ' "$work/found"; then
-        echo "rows_python: self-test $name: not found (status $status)"
-        cut -c1-200 "$work/found"
-        exit 1
-    fi
-    echo "rows_python: self-test $name: found"
-done
-python3 tests/rows_python.py "${runner[@]}" "$work/rows_calls"
+finds "$work/rows_python" 'rows_python: mismatch: ' $names
+run "$work/rows_python"
