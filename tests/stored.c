@@ -4,7 +4,7 @@
 #include <stdio.h>
 #include <stdlib.h>
 
-enum { ROOM = 65537, INPUTS = SERIFDOVE_INPUT_WORD_COUNT, OUTPUTS = SERIFDOVE_OUTPUT_WORD_COUNT, SCANS = 551, E = 65535 };
+enum { ROOM = 65537, INPUTS = SERIFDOVE_INPUT_WORD_COUNT, OUTPUTS = SERIFDOVE_OUTPUT_WORD_COUNT, SCANS = 551, SHORT = 9, E = 65535 };
 
 static uint8_t circuit[ROOM];
 static size_t circuit_len;
@@ -24,10 +24,27 @@ static serifdove_answer latch(int scan, int32_t analog) {
 }
 
 /* The oracle plays a scan in one go; the program in turns. */
-static void play(const char *name, int scan) {
-    latch(scan, 1000);
+static void work_out(void) {
     oracle_run(circuit, circuit_len, record, record_len, UINT32_MAX);
     oracle_publish(circuit, circuit_len, record, record_len, outputs, OUTPUTS);
+}
+
+/* A tick apart, from a cold start on: I1 is 1 in the first two scans, I2 in every second from the first on. */
+static void play_shortly(const char *name) {
+    oracle_cold_start(circuit, circuit_len, record, record_len);
+    printf("%s nine scans: Q1", name);
+    for (int scan = 1; scan <= SHORT; scan++) {
+        const int32_t inputs[INPUTS] = {scan <= 2, scan % 2 == 1};
+        oracle_latch(circuit, circuit_len, record, record_len, inputs, INPUTS, 1);
+        work_out();
+        printf(" %d", (int)outputs[0]);
+    }
+    printf("\n");
+}
+
+static void play(const char *name, int scan) {
+    latch(scan, 1000);
+    work_out();
     if (scan > 2 && scan < SCANS - 1)
         return;
     printf("%s scan %d", name, scan);
@@ -61,6 +78,7 @@ int main(int count, char **names) {
             play(names[i], scan);
         printf("%s analog 1001 ", names[i]);
         print_answer(latch(SCANS + 1, 1001));
+        play_shortly(names[i]);
     }
     return 0;
 }

@@ -10,7 +10,8 @@ python3 tests/stored_circuits.py "$work/cases" || exit 1
 for part in data args; do
     diff -r "$work/cases/$part" crates/cases/$part || exit 1
 done
-grep -v -E '^[^ ]* (scan|analog) ' crates/cases/stdout | diff "$work/cases/stdout" - || exit 1
+grep -v -E '^[^ ]* (scan|analog|nine scans:) ' crates/cases/stdout | diff "$work/cases/stdout" - || exit 1
+grep -F -x -f "$work/cases/nine_scans" crates/cases/stdout | diff "$work/cases/nine_scans" - || exit 1
 echo "stored: $(wc -l <crates/cases/args) circuits"
 
 $cc -std=c11 $warnings -O2 -Iinclude -Ioracle -o "$work/stored" tests/stored.c $oracle || exit 1

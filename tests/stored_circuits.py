@@ -1,6 +1,6 @@
 #!/usr/bin/env python3
 """The stored circuits of crates/cases: how each is made, and the answer that this gives, written by hand.
-stored_circuits.py FOLDER: writes them to FOLDER/data, and FOLDER/args and FOLDER/stdout beside."""
+stored_circuits.py FOLDER: writes them to FOLDER/data, and FOLDER/args, FOLDER/stdout and FOLDER/nine_scans beside."""
 import os
 import sys
 
@@ -38,7 +38,7 @@ def row(cls, number, source):
 
 
 end = field(0x7F, b"")
-none, i1, i2, ai1 = (0, 0), (1, 1), (1, 2), (7, 1)
+none, i1, i2, ai1, m8 = (0, 0), (1, 1), (1, 2), (7, 1), (4, 8)
 
 
 def and_of(*inputs):  # 17 bytes
@@ -65,13 +65,22 @@ def multiplexer(values=(0, 0, 0, 0)):  # 30 bytes
     return block(15, [i1, i1, i2], values)
 
 
+def counter(on, off, options=0):  # 22 bytes: counts I2
+    return block(17, [none, i2, none], [on, off], options)
+
+
+def stairway(base, t, warning, dark, trg=i1):  # 24 bytes
+    return block(18, [trg], [base, t, warning, dark])
+
+
 document_01 = header(1) + and_of(i1, i2) + row(1, 1, (6, 1)) + end
-sixteen = [
+one_of_each = [
     and_of(i1), block(2, [i1, none, none, none]), block(3, [(0x81, 24), none, none, none]), block(4, [(4, 64), none, none, none]),
     block(5, [(6, 1), (0x86, 2), (0x82, 0), (0x83, 0)]), block(6, [(6, 5), none, none, none]), block(7, [(6, 6), i1]), not_of((6, 7)),
     block(9, [(6, 8)], [0, 9999], 1), block(10, [(6, 9), none], [1, 5999], 1), block(11, [(6, 10), none], (), 1),
     block(12, [(6, 11), i1, none], [4, 8], 1), block(13, [(7, 8)], [-1000, 10000, 20000, -20000]), block(14, [(8, 64), (7, 1)], [1000, -10000, -20000, 20000]),
     block(15, [(6, 14), none, (2, 0)], [-32768, 32767, 0, -1]), block(16, [(9, 15)], [100, 0, 20000, 20000]),
+    block(17, [(6, 16), (0x81, 2), none], [999999, 0], 1), block(18, [(0x86, 17)], [1, 5999, 5999, 0], 1),
 ]
 destinations = [(1, k) for k in range(1, 21)] + [(2, k) for k in range(1, 65)] + [(3, k) for k in range(1, 9)] + [(4, k) for k in range(1, 65)]
 all_rows = b"".join(row(c, k, (3, 0) if c <= 2 else (8, 1)) for c, k in destinations)
@@ -89,10 +98,17 @@ cases = [
     ("n_401", header(401) + end, 4, 0, 0, 0),
     # accepted
     ("no_blocks", header(0) + end, 0, 0, 0, 0),
-    ("all_kinds", header(16) + b"".join(sixteen) + row(1, 20, (6, 16)) + row(3, 8, (9, 15)) + end, 0, 0, 16, 2),
+    ("all_kinds", header(18) + b"".join(one_of_each) + row(1, 20, (6, 16)) + row(3, 8, (9, 15)) + row(1, 18, (6, 18)) + end, 0, 0, 18, 3),
     ("labels", header(2) + and_of(i1) + label(b"") + not_of((6, 1)) + label(bytes(range(16))) + end, 0, 0, 2, 0),
     ("all_destinations", header(0) + all_rows + end, 0, 0, 0, 156),
     ("four_registers", header(4) + register(3, 1) + register(1, 8) + register(4, 1) + register(2, 1) + end, 0, 0, 4, 0),
+    ("counter_5", header(1) + counter(5, 5) + row(1, 1, (6, 1)) + end, 0, 0, 1, 1),
+    ("stairway_6_3_2", header(1) + stairway(0, 6, 3, 2) + row(1, 1, (6, 1)) + end, 0, 0, 1, 1),
+    ("counter_275", header(1) + counter(275, 275) + row(1, 1, (6, 1)) + end, 0, 0, 1, 1),  # I2 rises in each scan of an even number
+    ("counter_276", header(1) + counter(276, 276) + row(1, 1, (6, 1)) + end, 0, 0, 1, 1),
+    ("stairway_dark_at_last", header(1) + stairway(2, 5999, 13, 12, m8) + row(1, 1, (6, 1)) + end, 0, 0, 1, 1),  # M8 is 1 in the first scan
+    ("stairway_ends_at_last", header(1) + stairway(2, 5996, 5996, 1, m8) + row(1, 1, (6, 1)) + end, 0, 0, 1, 1),
+    ("stairway_all_the_same", header(1) + stairway(0, 9999, 9999, 9999) + end, 0, 0, 1, 0),
     ("flags_exchange", header(0) + row(2, 1, (4, 2)) + row(2, 2, (4, 1)) + end, 0, 0, 0, 2),
     # 1
     ("one_byte", b"\x01", 1, 0, 0, 0),
@@ -109,6 +125,8 @@ cases = [
     ("header_of_two_bytes", field(0x01, b"\x01\x00") + end, 2, 0, 0, 0),
     ("block_without_kind", header(1) + field(0x10, b"") + end, 2, 6, 0, 0),
     ("and_of_three_inputs", header(1) + block(1, [i1, i1, i1]) + end, 2, 6, 0, 0),
+    ("counter_of_one_byte", header(1) + field(0x10, b"\x11") + end, 2, 6, 0, 0),
+    ("stairway_of_two_times", header(1) + block(18, [i1], [0, 6, 3]) + end, 2, 6, 0, 0),
     ("block_behind_row", header(0) + row(1, 1, i1) + not_of(i1) + end, 2, 14, 0, 0),
     ("label_behind_header", header(1) + label(b"A") + not_of(i1) + end, 2, 6, 0, 0),
     ("label_twice", header(1) + not_of(i1) + label(b"") + label(b"A") + end, 2, 17, 0, 0),
@@ -120,13 +138,15 @@ cases = [
     ("version_2_n_401", header(401, 2) + end, 3, 0, 0, 0),
     # 4
     ("block_too_many", header(1) + not_of(i1) + label(b"AB") + not_of(i1) + end, 4, 19, 0, 0),
-    ("block_too_many_unknown_kind", header(0) + field(0x10, b"\x11") + end, 4, 6, 0, 0),
+    ("block_too_many_unknown_kind", header(0) + field(0x10, b"\x14") + end, 4, 6, 0, 0),
     ("row_blocks_missing", header(2) + not_of(i1) + row(5, 0, none) + end, 4, 14, 0, 0),
     ("end_field_blocks_missing", header(1) + end + b"\x00", 4, 6, 0, 0),
     # 5
     ("kind_0", header(1) + block(0, [i1]) + end, 5, 6, 0, 0),
-    ("kind_17_one_byte", header(1) + field(0x10, b"\x11") + end, 5, 6, 0, 0),
+    ("kind_20_one_byte", header(1) + field(0x10, b"\x14") + end, 5, 6, 0, 0),
+    ("kind_255", header(1) + block(255, [i1]) + end, 5, 6, 0, 0),
     ("retentive_not", header(1) + block(8, [(5, 0)], (), 1) + end, 5, 6, 0, 0),
+    ("counter_option_bit_1", header(1) + counter(0, 0, 2) + end, 5, 6, 0, 0),
     ("option_bit_1", header(1) + block(11, [i1, none], (), 2) + end, 5, 6, 0, 0),
     # 6
     ("class_5", header(1) + not_of((5, 1)) + end, 6, 6, 0, 0),
@@ -134,6 +154,7 @@ cases = [
     ("unused_inverted", header(1) + not_of((0x80, 0)) + end, 6, 6, 0, 0),
     ("unused_analog_input", header(1) + trigger(none) + end, 6, 6, 0, 0),
     ("multiplexer_as_digital", header(2) + multiplexer() + not_of((6, 1)) + end, 6, 36, 0, 0),
+    ("counter_as_analog", header(2) + counter(0, 0) + trigger((9, 1)) + end, 6, 28, 0, 0),
     ("later_then_class_5", header(2) + and_of((6, 2), (5, 0)) + not_of(i1) + end, 6, 6, 0, 0),
     ("later_than_n", header(2) + not_of((6, 3)) + not_of(i1) + end, 6, 6, 0, 0),
     ("row_unused", header(0) + row(1, 1, none) + end, 6, 6, 0, 0),
@@ -142,6 +163,7 @@ cases = [
     # 7
     ("later_block", header(2) + not_of((6, 2)) + not_of(i1) + end, 7, 6, 0, 0),
     ("later_block_of_wrong_sort", header(2) + not_of((6, 2)) + multiplexer() + end, 7, 6, 0, 0),
+    ("stairway_names_itself", header(2) + not_of(i1) + stairway(0, 0, 1, 0, (6, 2)) + end, 7, 14, 0, 0),
     ("trigger_names_itself", header(2) + not_of(i1) + trigger((9, 2)) + end, 7, 14, 0, 0),
     # 8
     ("base_257", header(1) + on_delay(257, 0) + end, 8, 6, 0, 0),
@@ -149,6 +171,12 @@ cases = [
     ("minutes_minus_1", header(1) + on_delay(1, -1) + end, 8, 6, 0, 0),
     ("gain_1001", header(1) + trigger(ai1, (1001, 0, 0, 0)) + end, 8, 6, 0, 0),
     ("value_32768", header(1) + multiplexer((0, 0, 0, 32768)) + end, 8, 6, 0, 0),
+    ("counter_on_1000000", header(1) + counter(1000000, 0) + end, 8, 6, 0, 0),
+    ("counter_off_minus_1", header(1) + counter(0, -1) + end, 8, 6, 0, 0),
+    ("stairway_warning_above_t", header(1) + stairway(0, 6, 7, 2) + end, 8, 6, 0, 0),
+    ("stairway_dark_above_warning", header(1) + stairway(0, 6, 3, 4) + end, 8, 6, 0, 0),
+    ("stairway_below_0_in_order", header(1) + stairway(0, 5, -1, -1) + end, 8, 6, 0, 0),
+    ("stairway_minutes_6000", header(1) + stairway(1, 6000, 6000, 6000) + end, 8, 6, 0, 0),
     ("index_twice_bit_9", header(2) + register(1, 1) + register(1, 9) + end, 8, 28, 0, 0),
     # 9
     ("destination_class_5", header(2) + not_of(i1) + multiplexer() + row(5, 1, (6, 2)) + end, 9, 44, 0, 0),
@@ -167,6 +195,12 @@ cases = [
     ("parameter_before_tag", header(2) + on_delay(3, 0) + b"\x00\x00\x00" + end, 8, 6, 0, 0),
 ]
 
+# Q1 in nine scans, a tick apart: I1 is 1 in the first two, I2 in the first, the third, .. the ninth
+nine_scans = {
+    "counter_5": "0 0 0 0 0 0 0 0 1",  # the fifth rise; 4 give 0
+    "stairway_6_3_2": "1 1 1 1 1 0 0 1 0",
+}
+
 
 def main():
     folder = sys.argv[1]
@@ -181,6 +215,8 @@ def main():
             f.write(circuit)
     with open(os.path.join(folder, "args"), "w") as f:
         f.write("".join(name + "\n" for name in names))
+    with open(os.path.join(folder, "nine_scans"), "w") as f:
+        f.write("".join(name + " nine scans: Q1 " + nine_scans[name] + "\n" for name in names if name in nine_scans))
     with open(os.path.join(folder, "stdout"), "w") as f:
         f.write("".join(" ".join([case[0]] + [str(number) for number in case[2:]]) + "\n" for case in cases))
 

@@ -1,10 +1,10 @@
 #!/usr/bin/env python3
-"""The stored trace tests/data/cases.trace: document 01's cases as calls, with what each call must answer and leave, written by hand.
+"""The stored trace tests/data/cases.trace: the papers' cases as calls, with what each call must answer and leave, written by hand.
 stored_traces.py: prints it."""
 import sys
 
 sys.dont_write_bytecode = True
-from stored_circuits import ai1, block, document_01, end, header, i1, i2, none, on_delay, row, trigger
+from stored_circuits import ai1, block, document_01, end, header, i1, i2, none, on_delay, row, stairway, trigger
 
 PHASE, DONE, MARK, E = range(4)
 Q, M, AQ, AM = 1, 2, 3, 4  # destination classes
@@ -170,6 +170,131 @@ def bits():
     trace.end()
 
 
+def counter_of(on, off, options=0):
+    """R is I1, Cnt is I2, Dir is I3."""
+    return block(17, [i1, i2, (1, 3)], [on, off], options)
+
+
+def counts():
+    q1 = {(Q, 1): 1}
+    trace = Trace("counter, On = Off = 5: count 5 gives 1, 4 gives 0", header(1) + counter_of(5, 5) + row(Q, 1, block1) + end, 1)
+    trace.put(own(1, 0, 0, 4))
+    trace.scan(own(1, 1, 1, 5), q1, bits={2: 1})
+    trace.scan(own(1, 1, 0, 5), q1)
+    trace.scan(own(1, 0, 1, 4), {}, bits={2: 1, 3: 1})
+    trace.end()
+    trace = Trace("counter: a rise in the first scan counts, one during R is lost, and 0 is a stop", header(1) + counter_of(1, 1) + row(Q, 1, block1) + end, 1)
+    trace.cold()
+    trace.scan(own(1, 1, 1, 1), q1, bits={2: 1})
+    trace.scan(own(1, 1, 0, 1), q1, bits={3: 1})
+    trace.scan(own(1, 0, 1, 0), {}, bits={1: 1, 2: 1})
+    trace.scan(own(1, 0, 1, 0), {}, bits={2: 1})
+    trace.scan(own(1, 0, 0, 0), {})
+    trace.scan(own(1, 0, 1, 0), {}, bits={2: 1, 3: 1})
+    trace.end()
+    trace = Trace("counter, Off 0 below On: R holds Q", header(1) + counter_of(5, 0) + row(Q, 1, block1) + end, 1)
+    trace.put(own(1, 1, 0, 7))
+    trace.scan(own(1, 1, 0, 0), q1, bits={1: 1})
+    trace.put(own(1, 0, 0, 7))
+    trace.scan(own(1, 1, 0, 7), q1)
+    trace.put(own(1, 0, 0, 4))
+    trace.scan(own(1, 0, 0, 0), {}, bits={1: 1})
+    trace.end()
+    trace = Trace("counter, On 0: R makes Q 1", header(1) + counter_of(0, 3) + row(Q, 1, block1) + end, 1)
+    trace.put(own(1, 0, 0, 7))
+    trace.scan(own(1, 1, 0, 0), q1, bits={1: 1})
+    trace.end()
+    trace = Trace("counter: 999,999 is a stop, and sound; 1,000,000 is not", header(1) + counter_of(999999, 999999) + row(Q, 1, block1) + end, 1)
+    trace.put(own(1, 0, 0, 999998))
+    trace.scan(own(1, 1, 1, 999999), q1, bits={2: 1})
+    trace.scan(own(1, 1, 0, 999999), q1)
+    trace.scan(own(1, 1, 1, 999999), q1, bits={2: 1})
+    trace.put(own(1, 1, 1, 1000000))
+    trace.latch_refused(21)
+    trace.put(own(1, 1, 2, 999999))
+    trace.latch_refused(21)
+    trace.end()
+    two = header(2) + counter_of(2, 2, 1) + counter_of(2, 2) + row(Q, 1, block1) + row(Q, 2, (6, 2)) + end
+    trace = Trace("counters, the first retentive: after a warm start the other begins again, and Cnt is a rise to it", two, 2)
+    trace.cold()
+    trace.scan(own(1, 0, 1, 1) | own(2, 0, 1, 1), {}, bits={2: 1})
+    trace.warm(own(1, 0, 1, 1))
+    trace.scan(own(1, 0, 1, 1) | own(2, 0, 1, 1), {}, bits={2: 1})
+    trace.warm(own(1, 0, 1, 1))
+    trace.scan(own(1, 0, 0, 1) | own(2, 0, 0, 0), {})
+    trace.scan(own(1, 1, 1, 2) | own(2, 0, 1, 1), q1, bits={2: 1})
+    trace.end()
+
+
+def stairs():
+    q1 = {(Q, 1): 1}
+    example = header(1) + stairway(0, 6, 3, 2) + row(Q, 1, block1) + end
+    trace = Trace("stairway switch, T 6, T! 3, T!L 2, e 1, Trg 1, 1, 0, ..: Q 1, 1, 1, 1, 1, 0, 0, 1, 0", example, 1)
+    trace.cold()
+    trace.scan(own(1, 1, 3, 0), q1, e=1, bits={1: 1})
+    trace.scan(own(1, 1, 3, 0), q1, e=1, bits={1: 1})
+    trace.scan(own(1, 1, 2, 0), q1, e=1)
+    trace.scan(own(1, 1, 2, 1), q1, e=1)
+    trace.scan(own(1, 1, 2, 2), q1, e=1)
+    trace.scan(own(1, 0, 2, 3), {}, e=1)
+    trace.scan(own(1, 0, 2, 4), {}, e=1)
+    trace.scan(own(1, 1, 2, 5), q1, e=1)
+    trace.scan(own(1, 0, 0, 0), {}, e=1)
+    trace.end()
+    trace = Trace("stairway switch: a rise while it runs, words that no scan leaves, words that are not sound", example, 1)
+    trace.put(own(1, 0, 2, 4))
+    trace.scan(own(1, 1, 3, 0), q1, e=1, bits={1: 1})
+    trace.scan(own(1, 1, 2, 0), q1, e=6)
+    trace.scan(own(1, 0, 0, 0), {}, e=6)
+    trace.put(own(1, 1, 1, 5))
+    trace.scan(own(1, 0, 1, 0), {}, e=1, bits={1: 1})
+    trace.put(own(1, 1, 2, 6))
+    trace.scan(own(1, 0, 0, 0), {}, e=0)
+    trace.put(own(1, 1, 2, 7))
+    trace.latch_refused(21)
+    trace.put(own(1, 1, 4, 0))
+    trace.latch_refused(21)
+    trace.end()
+    trace = Trace("stairway switch, T 3, T! 3, T!L 1: dark from the fall on", header(1) + stairway(0, 3, 3, 1) + row(Q, 1, block1) + end, 1)
+    trace.cold()
+    trace.scan(own(1, 1, 3, 0), q1, e=1, bits={1: 1})
+    trace.scan(own(1, 0, 2, 0), {}, e=1)
+    trace.scan(own(1, 1, 2, 1), q1, e=1)
+    trace.scan(own(1, 1, 2, 2), q1, e=1)
+    trace.scan(own(1, 0, 0, 0), {}, e=1)
+    trace.end()
+    trace = Trace("stairway switch, T 0: it ends on the fall", header(1) + stairway(0, 0, 0, 0) + row(Q, 1, block1) + end, 1)
+    trace.cold()
+    trace.scan(own(1, 1, 3, 0), q1, e=9, bits={1: 1})
+    trace.scan(own(1, 1, 3, 0), q1, e=9, bits={1: 1})
+    trace.scan(own(1, 0, 0, 0), {}, e=9)
+    trace.end()
+    two = header(2) + block(18, [i1], [1, 2, 1, 1], 1) + stairway(1, 2, 1, 1) + row(Q, 1, block1) + row(Q, 2, (6, 2)) + end
+    trace = Trace("stairway switches in minutes, the first retentive: after a warm start it goes on, and the other is off", two, 2)
+    trace.cold()
+    trace.scan(own(1, 1, 3, 0) | own(2, 1, 3, 0), {(Q, 1): 1, (Q, 2): 1}, e=100, bits={1: 1})
+    trace.scan(own(1, 1, 2, 0) | own(2, 1, 2, 0), {(Q, 1): 1, (Q, 2): 1}, e=100)
+    trace.scan(own(1, 1, 2, 99) | own(2, 1, 2, 99), {(Q, 1): 1, (Q, 2): 1}, e=99)
+    trace.warm(own(1, 1, 2, 99))
+    trace.scan(own(1, 0, 2, 100) | own(2, 0, 0, 0), {}, e=1)
+    trace.scan(own(1, 0, 2, 199) | own(2, 0, 0, 0), {}, e=99)
+    trace.scan(own(1, 0, 0, 0) | own(2, 0, 0, 0), {}, e=1)
+    trace.end()
+    trace = Trace("stairway switch, hours 5999: Ta up to 35,994,000 ticks is sound", header(1) + stairway(2, 5999, 5999, 5998) + end, 1)
+    trace.put(own(1, 0, 2, 35922465))
+    trace.scan(own(1, 1, 2, 35988000), {}, e=65535)
+    trace.scan(own(1, 1, 2, 35993999), {}, e=5999)
+    trace.put(own(1, 1, 2, 35994000))
+    trace.scan(own(1, 0, 0, 0), {}, e=0)
+    trace.put(own(1, 0, 2, 35994001))
+    trace.latch_refused(21)
+    trace.end()
+    trace = Trace("check: times out of order", header(1) + stairway(0, 6, 3, 4) + end, 1)
+    trace.said("check", 8, place=6)
+    trace.said("cold", 8, place=6)
+    trace.end()
+
+
 def thresholds():
     window = header(1) + trigger(ai1, (-33, 0, -3, -2)) + row(Q, 1, block1) + end
     trace = Trace("gain -33, input 10, B 0: -3, seen through a window", window, 1)
@@ -234,6 +359,8 @@ def turns():
 checks()
 delays()
 bits()
+counts()
+stairs()
 thresholds()
 rows()
 turns()

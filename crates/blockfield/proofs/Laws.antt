@@ -11,8 +11,8 @@ use lib.IntN.{ℤ, pos}
 use borrow.Author.Tests.{eq-eqb, ne-eqb, lt-leb, eqb-true, ltb-true, not-false}
 use Rattle.words.proofs.Bounds.{and-true}
 use Rattle.words.specs.Signed.{Between}
-use Rattle.kinds.specs.Kinds.{Kind, kinds, kindOf, known, contentLength, parameter, rangesFit, settingsFit, allowed, scaled, timed, indexed, chosen}
-use Rattle.kinds.specs.Table.{kindsTable, Lent}
+use Rattle.kinds.specs.Kinds.{Kind, kinds, kindOf, known, contentLength, parameter, rangesFit, settingsFit, inOrder, allowed, scaled, timed, indexed, chosen}
+use Rattle.kinds.specs.Table.{kindsTable, rows, Lent}
 use Rattle.kinds.proofs.Allowed.{param-in}
 use Rattle.kinds.proofs.Rows.{each-kind, small-kind}
 use Rattle.refusals.specs.Stages.{opening, amongRows}
@@ -26,9 +26,9 @@ use Rattle.blockfield.specs.Marked.{knownFaults}
 
 -- ---- kinds
 
-pub known-below : (kind : ℕ) → known kind ≡ true → kind < 17
+pub known-below : (kind : ℕ) → known kind ≡ true → kind < rows
 unfolding known kinds
-known-below kind e = ltb-true kind 17 (and-true (leb 1 kind) (ltb kind 17) e .1)
+known-below kind e = ltb-true kind rows (and-true (leb 1 kind) (ltb kind rows) e .1)
 
 pub lent : (table : List (List ℤ)) (kind : ℕ) → table ≡ kindsTable → known kind ≡ true → Lent table kind
 lent table kind t e = record { table-is = t; has-row = known-below kind e }
@@ -54,10 +54,12 @@ module _ (s : List ℕ) where
   signed-out (suc count) from zero h = let z : ⊥ = omega arith in absurd z
   signed-out (suc count) from (suc j) h = signed-out count (from + 4) j (le-of-suc-le-suc h)
 
-settings-four : (n : ℕ) (p : List ℤ) → n ≤ 1 → settingsFit n (fourOf p) ≡ settingsFit n p
+settings-four : (n : ℕ) (p : List ℤ) → n ≤ 3 → (settingsFit n (fourOf p) && inOrder n (fourOf p)) ≡ (settingsFit n p && inOrder n p)
 settings-four zero p h = refl
 settings-four (suc zero) p h = refl
-settings-four (suc (suc n)) p h = let z : ⊥ = omega arith in absurd z
+settings-four (suc (suc zero)) p h = refl
+settings-four (suc (suc (suc zero))) p h = refl
+settings-four (suc (suc (suc (suc n)))) p h = let z : ⊥ = omega arith in absurd z
 
 -- a parameter that a block has not is 0
 pub allowed-four : (kind : ℕ) (p : List ℤ) → allowed kind (fourOf p) ≡ allowed kind p
@@ -67,7 +69,7 @@ allowed-four kind p =
 
 -- a kind without parameters allows none
 plain : Kind → Bool
-plain k = cond (eqb (length (k .parameters)) 0) (rangesFit k [] && settingsFit (k .times) []) true
+plain k = cond (eqb (length (k .parameters)) 0) (rangesFit k [] && (settingsFit (k .times) [] && inOrder (k .times) [])) true
 
 plain-kind : (kind : ℕ) → plain (kindOf kind) ≡ true
 unfolding plain kinds scaled timed indexed chosen

@@ -63,7 +63,7 @@ indexFrom at = parametersFrom at (kindOf shiftRegister)
 unfoldable pub wrongLength : ℕ → ℕ → Bool
 wrongLength kind size = eqb size 0 || (known kind && not (eqb size (contentLength (kindOf kind))))
 
--- "Option bit 0 is retentive, allowed on kinds 9 to 12; other bits are 0"
+-- "Option bit 0 is retentive, allowed on kinds 9 to 12; other bits are 0"; 17 and 18 "may be retentive"
 abbrev pub mostOption : Kind → ℕ
 mostOption k = cond (k .retentive) 1 0
 
@@ -92,6 +92,6 @@ blockFaults limits s at size stage n count sorts used =
     ∷ 5 when wrongKind kind (optionAt s at)  -- "kind unknown .., or option not allowed"
     ∷ 6 when wrongInputs limits (count + 1) n sorts digitals analogs  -- "connector not allowed there"
     ∷ 7 when laterInputs (count + 1) digitals analogs  -- "own or later block named"
-    ∷ 8 when not (allowed kind (parametersAt s at (kindOf kind)))  -- "parameter out of range"
+    ∷ 8 when not (allowed kind (parametersAt s at (kindOf kind)))  -- "parameter out of range"; "8 also for the order of the three times"
     ∷ 10 when (eqb kind shiftRegister && used)  -- "shift register index used twice"
     ∷ [])

@@ -42,11 +42,11 @@ none-of kind (suc n) ne h k = by (eqb kind (suc n)) refl (none-of kind n (ne .0)
     by true e less = ne .1 (eqb-true kind (suc n) e)
     by false e less = less (omega (arith, eqb-false kind (suc n) e))
 
-pub no-rule : (kind : ℕ) → NoneOf kind 16 → workedOut kind ≡ idle
+pub no-rule : (kind : ℕ) → NoneOf kind 18 → workedOut kind ≡ idle
 unfolding workedOut rules
 no-rule zero ne = refl
-no-rule (suc k) ne = by (leb (suc k) 16) refl
+no-rule (suc k) ne = by (leb (suc k) 18) refl
   where
-    by : (b : Bool) → leb (suc k) 16 ≡ b → getD rules (suc k) idle ≡ idle
-    by true e = absurd (none-of (suc k) 16 ne (omega arith) (leb-true (suc k) 16 e))
-    by false e = List·getD-eq-default rules idle (leb-false (suc k) 16 e)
+    by : (b : Bool) → leb (suc k) 18 ≡ b → getD rules (suc k) idle ≡ idle
+    by true e = absurd (none-of (suc k) 18 ne (omega arith) (leb-true (suc k) 18 e))
+    by false e = List·getD-eq-default rules idle (leb-false (suc k) 18 e)

@@ -11,14 +11,15 @@ use lib.IntN.{ℤ, pos, _-ℤ_}
 use Rattle.words.specs.Signed.{wordOf}
 use Rattle.words.proofs.Bounds.{zero-between, count-between, amount-between}
 use Rattle.words.proofs.Bits.{bit-between, word-between}
-use Rattle.kinds.specs.Kinds.{Kind, Sort, digital, analog, none, elapsed, upTo, In, sixteen, delay, latching, shifting, trigger, choosing, kinds, kindOf, chosen, mostOf, parameter, sortRange, outputRange, rememberedRange}
+use Rattle.kinds.specs.Kinds.{Kind, Sort, digital, analog, none, elapsed, upTo, In, sixteen, delay, latching, shifting, trigger, choosing, mostCount, counting, stairway, kinds, kindOf, chosen, mostOf, parameter, sortRange, outputRange, rememberedRange}
 use Rattle.kinds.specs.Time.{ticks}
 use Rattle.kinds.specs.declared.Ticks.{Ticks}
 use Rattle.rules.specs.declared.BlockWords.{BlockWords}
-use Rattle.rules.specs.Rules.{three, gives, shows, bit, allOf, someOf, andGate, andEdge, nandGate, nandEdge, orGate, norGate, xorGate, notGate, grown, onDelay, offDelay, latchingRelay, digit, registerBit, stepped, shiftRegister, actualOf, triggersOn, thresholdTrigger, compared, multiplexed}
-use Rattle.rules.proofs.Register.{shifted-below}
+use Rattle.rules.specs.Rules.{three, gives, shows, bit, allOf, someOf, andGate, andEdge, nandGate, nandEdge, orGate, norGate, xorGate, notGate, grown, onDelay, offDelay, latchingRelay, digit, registerBit, stepped, shiftRegister, actualOf, triggersOn, thresholdTrigger, compared, multiplexed, tally, countsOn, upDownCounter, trgAndRunning, stands, isDark, dims, stairwaySwitch}
+use Rattle.rules.proofs.Register.{digit-small, shifted-below}
+use Rattle.rules.proofs.Worked.{tally-most}
 use Rattle.blocks.specs.declared.Prepared.{Prepared}
-use Rattle.blocks.specs.Blocks.{wasBit, wasOn, wasNumber, Rule, idle, rules, workedOut}
+use Rattle.blocks.specs.Blocks.{wasBit, wasOn, wasPressed, wasRunning, wasNumber, Rule, idle, rules, workedOut}
 use Rattle.blocks.specs.Fit.{Fit, Sound}
 
 -- ---- a line for each kind
@@ -93,6 +94,35 @@ relay-shown true s q = record { q = false; is = refl }
 relay-shown false true q = record { q = true; is = refl }
 relay-shown false false q = record { q = q; is = refl }
 
+-- Q, Trg, whether it runs, and a number that is at most m
+record Stood (m : ℕ) (w : BlockWords) : Type 0 where
+  q : Bool
+  trg : Bool
+  running : Bool
+  n : ℕ
+  is : w ≡ stands q trg running n
+  most : n ≤ m
+
+stood : {m : ℕ} (q trg running : Bool) (n : ℕ) → n ≤ m → Stood m (stands q trg running n)
+stood q trg running n h = record { q = q; trg = trg; running = running; n = n; is = refl; most = h }
+
+dims-stood : (ta t warning dark : Ticks) → ta .0 ≤ t .0 → Stood (t .0) (dims ta t warning dark)
+dims-stood ta t warning dark h = by (eqb (ta .0) (t .0))
+  where
+    by : (ends : Bool) → Stood (t .0) (cond ends (stands false false false 0) (stands (not (isDark ta t warning dark)) false true (ta .0)))
+    by true = stood false false false 0 (omega arith)
+    by false = stood (not (isDark ta t warning dark)) false true (ta .0) h
+
+-- Ta is at most T
+stairs-stood : (trg was ran : Bool) (ta t warning dark e : Ticks) → Stood (t .0) (stairwaySwitch trg was ran ta t warning dark e)
+unfolding stairwaySwitch
+stairs-stood true false ran ta t warning dark e = stood true true true 0 (omega arith)
+stairs-stood true true ran ta t warning dark e = stood ran true ran 0 (omega arith)
+stairs-stood false false false ta t warning dark e = stood false false false 0 (omega arith)
+stairs-stood false true false ta t warning dark e = stood false false false 0 (omega arith)
+stairs-stood false true true ta t warning dark e = dims-stood (ticks 0) t warning dark (omega arith)
+stairs-stood false false true ta t warning dark e = dims-stood (grown ta t e) t warning dark (omega arith)
+
 -- ---- the delays, the relay, the register of 8 bits
 
 delay-sound : (n : ℕ) (t : Ticks) {m : ℕ} {w : BlockWords} → Made m w → m ≤ t .0 → Sound (delay n) t w
@@ -111,6 +141,27 @@ unfolding shiftRegister
 shift-sound t x trg down was r j h =
     let next = stepped (trg && not was) down x r in
     gives-sound shifting t refl (omega arith) (registerBit next j) trg next (stepped-most (trg && not was) down x r h)
+
+-- ---- the counter, the stairway switch
+
+count-sound : (t : Ticks) (r cnt down was q : Bool) (n : ℕ) (p : List ℤ) → n ≤ mostCount → Sound counting t (upDownCounter r cnt down was q n p)
+unfolding upDownCounter
+count-sound t r cnt down was q n p h =
+    let next = tally r (cnt && not was) down n in
+    gives-sound counting t refl (omega arith) (countsOn (pos next) (parameter p 0) (parameter p 1) q) cnt next
+    (tally-most r (cnt && not was) down n h)
+
+held-in : (trg running : Bool) → In (rememberedRange stairway) (trgAndRunning trg running)
+held-in trg running = count-between (omega (arith, digit-small trg, digit-small running))
+
+stairs-sound : (t : Ticks) {m : ℕ} {w : BlockWords} → Stood m w → m ≤ t .0 → Sound stairway t w
+stairs-sound t d h =
+    rw (d .is)
+    record {
+      output-is = word-between (d .q);
+      remembered-is = held-in (d .trg) (d .running);
+      number-is = count-between (omega (arith, d .most));
+    }
 
 -- ---- the thresholds: a bit
 
@@ -174,6 +225,8 @@ each-keeps =
     also (λ b a p was e f s. compare-sound (p .time) (parameter a 0) (parameter a 1) (p .params) (wasOn was))
     also (λ b a p was e f s. choice-sound p f (p .time) (bit b 0) (bit b 1) (bit b 2))
     also (λ b a p was e f s. threshold-sound (p .time) (parameter a 0) (p .params) (wasOn was))
+    also (λ b a p was e f s. count-sound (p .time) (bit b 0) (bit b 1) (bit b 2) (wasBit was) (wasOn was) (wasNumber was) (p .params) (amount-between (s .number-is) .1))
+    also (λ b a p was e f s. stairs-sound (p .time) (stairs-stood (bit b 0) (wasPressed was) (wasRunning was) (ticks (wasNumber was)) (p .time) (p .warning) (p .dark) e) (omega arith))
     also tt
 
 -- a block's words stay in the ranges that a sound record asks
@@ -216,6 +269,15 @@ shift-leaves x trg down was r j =
     let next = stepped (trg && not was) down x r in
     leaves-number shifting (omega arith) (upTo-is 255) (registerBit next j) trg next
 
+count-leaves : (r cnt down was q : Bool) (n : ℕ) (p : List ℤ) → Leaves counting (upDownCounter r cnt down was q n p)
+unfolding upDownCounter
+count-leaves r cnt down was q n p =
+    let next = tally r (cnt && not was) down n in
+    leaves-number counting (omega arith) (upTo-is mostCount) (countsOn (pos next) (parameter p 0) (parameter p 1) q) cnt next
+
+stairs-leaves : {m : ℕ} {w : BlockWords} → Stood m w → Leaves stairway w
+stairs-leaves d = rw (d .is) record { remembered-is = held-in (d .trg) (d .running); number-is = λ e. absurd (elapsed-is e) }
+
 abbrev pub Uses : ℕ → Rule → Type 0
 Uses kind r = (b : List Bool) (a : List ℤ) (p : Prepared) (was : BlockWords) (e : Ticks) → Leaves (kindOf kind) (r b a p was e)
 
@@ -239,6 +301,8 @@ each-uses =
     also (λ b a p was e. leaves-zero _ _)
     also (λ b a p was e. leaves-zero _ _)
     also (λ b a p was e. leaves-zero _ _)
+    also (λ b a p was e. count-leaves (bit b 0) (bit b 1) (bit b 2) (wasBit was) (wasOn was) (wasNumber was) (p .params))
+    also (λ b a p was e. stairs-leaves (stairs-stood (bit b 0) (wasPressed was) (wasRunning was) (ticks (wasNumber was)) (p .time) (p .warning) (p .dark) e))
     also tt
 
 -- the words that a kind has no use for become 0

@@ -1,32 +1,33 @@
 -- One dispatch by kind: what a block's three words become, from its resolved inputs, its prepared parameters, its three words and e.
-use Prim.Native.Nat.{ℕ, zero, suc}
-use mathlib.Core.Bool.{Bool, cond}
+use Prim.Native.Nat.{ℕ}
+use mathlib.Core.Bool.{Bool, cond, _||_}
 use mathlib.Core.List.{List, [], _∷_}
-use lib.Dec.{eqb}
+use lib.Dec.{leb, eqb}
 use lib.ListN.{getD}
 use lib.IntN.{ℤ, pos}
 use Rattle.words.specs.Signed.{over, bitOf}
 use Rattle.kinds.specs.Time.{ticks, settingOf, ticksOf}
 use Rattle.kinds.specs.Kinds.{kindOf, parameter}
 use Rattle.kinds.specs.declared.Ticks.{Ticks}
-use Rattle.rules.specs.Rules.{three, bit, andGate, andEdge, nandGate, nandEdge, orGate, norGate, xorGate, notGate, onDelay, offDelay, latchingRelay, shiftRegister, thresholdTrigger, compared, multiplexed, withOff}
+use Rattle.rules.specs.Rules.{three, bit, andGate, andEdge, nandGate, nandEdge, orGate, norGate, xorGate, notGate, onDelay, offDelay, latchingRelay, shiftRegister, thresholdTrigger, compared, multiplexed, withOff, upDownCounter, stairwaySwitch}
 use Rattle.rules.specs.declared.BlockWords.{BlockWords}
 use Rattle.blocks.specs.declared.Prepared.{Prepared}
 
--- ---- parameters made ready: the setting in ticks, Off worked out
+-- ---- parameters made ready: the settings in ticks, Off worked out
 
--- the ticks set: those of base and T where the kind has a setting, else none
-abbrev pub timeOf : ℕ → List ℤ → Ticks
-timeOf zero p = ticks 0
-timeOf (suc n) p = ticksOf (settingOf (parameter p 0) (parameter p 1))
+-- the ticks of setting j, from 1, of a kind with n settings; 0 where it has not so many
+abbrev pub timeOf : ℕ → ℕ → List ℤ → Ticks
+timeOf n j p = cond (leb j n) (ticksOf (settingOf (parameter p 0) (parameter p j))) (ticks 0)
 
--- the parameters of a block as its rule takes them; kind 16 is then worked out as 13
+-- the parameters of a block as its rule takes them: T, T!, T!L, and all; kind 16 is then worked out as 13
 unfoldable pub prepared : ℕ → List ℤ → Prepared
-prepared kind p = record { time = timeOf (kindOf kind .times) p; params = cond (eqb kind 16) (withOff p) p }
+prepared kind p =
+    let n = kindOf kind .times in
+    record { time = timeOf n 1 p; warning = timeOf n 2 p; dark = timeOf n 3 p; params = cond (eqb kind 16) (withOff p) p }
 
 -- ---- a block's three words, as the rules read them
 
--- "all inputs 1 for kinds 2 and 4; Trg for 9, 10, 12"
+-- "all inputs 1 for kinds 2 and 4; Trg for 9, 10, 12"; Cnt for 17
 abbrev pub wasBit : BlockWords → Bool
 wasBit was = bitOf (was .remembered)
 
@@ -34,7 +35,14 @@ wasBit was = bitOf (was .remembered)
 abbrev pub wasOn : BlockWords → Bool
 wasOn was = bitOf (was .output)
 
--- Ta, or the register
+-- kind 18: "Trg, plus 2 while running"
+abbrev pub wasPressed : BlockWords → Bool
+wasPressed was = eqb (over (was .remembered)) 1 || eqb (over (was .remembered)) 3
+
+abbrev pub wasRunning : BlockWords → Bool
+wasRunning was = leb 2 (over (was .remembered))
+
+-- Ta, the register, or the count
 abbrev pub wasNumber : BlockWords → ℕ
 wasNumber was = over (was .number)
 
@@ -67,6 +75,8 @@ rules =
     ∷ (λ b a p was e. compared (parameter a 0) (parameter a 1) (p .params) (wasOn was))  -- 14 comparator: Ax, Ay
     ∷ (λ b a p was e. multiplexed (bit b 0) (bit b 1) (bit b 2) (p .params))  -- 15 multiplexer: En, S1, S2
     ∷ (λ b a p was e. thresholdTrigger (parameter a 0) (p .params) (wasOn was))  -- 16 differential trigger: Ax, with its Off worked out
+    ∷ (λ b a p was e. upDownCounter (bit b 0) (bit b 1) (bit b 2) (wasBit was) (wasOn was) (wasNumber was) (p .params))  -- 17 up/down counter: R, Cnt, Dir
+    ∷ (λ b a p was e. stairwaySwitch (bit b 0) (wasPressed was) (wasRunning was) (ticks (wasNumber was)) (p .time) (p .warning) (p .dark) e)  -- 18 stairway switch: Trg
     ∷ []
 
 -- what a block's three words become

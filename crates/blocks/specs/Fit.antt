@@ -1,7 +1,7 @@
 -- What the functions of the rules count on, and which three words a block may have. Not part of what a reader has to believe.
 use mathlib.Core.Path.{_≡_}
 use mathlib.Core.List.{List}
-use Prim.Native.Nat.{ℕ, _<_, _^_}
+use Prim.Native.Nat.{ℕ, _≤_, _<_, _^_}
 use lib.IntN.{ℤ, pos}
 use Rattle.words.specs.Signed.{minus, Between}
 use Rattle.kinds.specs.Kinds.{Kind, In, kindOf, parameter, rangeAt, sixteen, outputRange, rememberedRange, numberRange}
@@ -12,6 +12,8 @@ use Rattle.blocks.specs.declared.Prepared.{Prepared}
 -- of the parameters of an accepted circuit. Off of kind 16 has no range of its own
 pub record Fit (kind : ℕ) (p : Prepared) : Type 0 where
   pub time-is : p .time .0 < 2 ^ 31
+  pub warning-is : p .warning .0 ≤ p .time .0
+  pub dark-is : p .dark .0 ≤ p .warning .0
   pub params-are : (j : ℕ) → j < 4 → (kind ≡ 16 → j < 3) → In (rangeAt (kindOf kind) j) (parameter (p .params) j)
 
 -- of the gain and the offset among them

@@ -1,34 +1,36 @@
 // One block: its parameters made ready, and what its three words become, by kind.
 ghost use mathlib.Core.Path.{_≡_};
 ghost use mathlib.Core.Bool.{true};
-ghost use Prim.Native.Nat.{_<_, _^_};
+ghost use Prim.Native.Nat.{_≤_, _<_, _^_};
 ghost use lib.IntN.{pos};
 ghost use Rattle.words.specs.Signed.{Between, over};
 ghost use Rattle.kinds.specs.Kinds.{kindOf, parameter, allowed};
 ghost use Rattle.kinds.specs.Table.{Lent};
 ghost use Rattle.kinds.specs.Time.{ticks};
-ghost use Rattle.rules.specs.Rules.{three, bit, onDelay, offDelay, latchingRelay, shiftRegister, thresholdTrigger, compared, multiplexed};
-ghost use Rattle.blocks.specs.Blocks.{timeOf, prepared, wasBit, wasOn, wasNumber, workedOut};
+ghost use Rattle.rules.specs.Rules.{three, bit, onDelay, offDelay, latchingRelay, shiftRegister, thresholdTrigger, compared, multiplexed, upDownCounter, stairwaySwitch};
+ghost use Rattle.blocks.specs.Blocks.{timeOf, prepared, wasBit, wasOn, wasPressed, wasRunning, wasNumber, workedOut};
 ghost use Rattle.blocks.specs.Fit.{Fit, Sixteen, Scaling};
 use kinds::KindTable;
 use kinds::Ticks;
 use rules::BlockWords;
 
-// A block's parameters, made ready: its setting in ticks, Off worked out.
+// A block's parameters, made ready: its settings T, T! and T!L in ticks, Off worked out.
 pub struct Prepared {
     pub time: Ticks,
+    pub warning: Ticks,
+    pub dark: Ticks,
     pub params: [i32; 4],
 }
 
-// The ticks that a block's parameters set.
-fn time_of(kinds: &KindTable, kind: usize, params: [i32; 4]) -> Ticks
-    requires { ⌜ Lent (now kinds) kind × (allowed kind params ≡ true) ⌝ }
-    ensures { λ r. ⌜ r ≡ timeOf (kindOf kind .times) params ⌝ }
+// The ticks that setting j, from 1, of a block sets.
+fn time_of(kinds: &KindTable, kind: usize, j: usize, params: [i32; 4]) -> Ticks
+    requires { ⌜ Lent (now kinds) kind × (allowed kind params ≡ true) × (1 ≤ j) ⌝ }
+    ensures { λ r. ⌜ r ≡ timeOf (kindOf kind .times) j params ⌝ }
 {
-    if kinds::times(kinds, kind) == 0 {
+    if kinds::times(kinds, kind) < j {
         return Ticks(0);
     }
-    kinds::ticks_of(kinds::setting_of(params[0], params[1]))
+    kinds::ticks_of(kinds::setting_of(params[0], params[j]))
 }
 
 // A block's parameters, made ready.
@@ -36,12 +38,24 @@ pub fn prepare(kinds: &KindTable, kind: usize, params: [i32; 4]) -> Prepared
     requires { ⌜ Lent (now kinds) kind × (allowed kind params ≡ true) ⌝ }
     ensures { λ r. ⌜ r ≡ prepared kind params ⌝ }
 {
-    let time = time_of(kinds, kind, params);
+    let time = time_of(kinds, kind, 1, params);
+    let warning = time_of(kinds, kind, 2, params);
+    let dark = time_of(kinds, kind, 3, params);
     if kind == 16 {
         let params = thresholds::with_off(params);
-        return Prepared { time, params };
+        return Prepared {
+            time,
+            warning,
+            dark,
+            params,
+        };
     }
-    Prepared { time, params }
+    Prepared {
+        time,
+        warning,
+        dark,
+        params,
+    }
 }
 
 // The remembered bit.
@@ -58,7 +72,29 @@ fn was_on(was: BlockWords) -> bool
     words::bit_of(was.output)
 }
 
-// The number: Ta, or the register.
+// The remembered word as a number: 0 to 3 of a stairway switch.
+fn was_held(was: BlockWords) -> u32
+    ensures { λ r. ⌜ r ≡ over (was .remembered) ⌝ }
+{
+    words::amount_of(was.remembered)
+}
+
+// Trg of the last scan, of a stairway switch.
+fn was_pressed(was: BlockWords) -> bool
+    ensures { λ r. ⌜ r ≡ wasPressed was ⌝ }
+{
+    let held = was_held(was);
+    (held == 1) | (held == 3)
+}
+
+// Whether it ran.
+fn was_running(was: BlockWords) -> bool
+    ensures { λ r. ⌜ r ≡ wasRunning was ⌝ }
+{
+    2 <= was_held(was)
+}
+
+// The number: Ta, the register, or the count.
 fn was_number(was: BlockWords) -> u32
     ensures { λ r. ⌜ (r ≡ wasNumber was) × (r < 2 ^ 31) ⌝ }
 {
@@ -136,6 +172,44 @@ fn choice_block(bits: [bool; 4], p: Prepared) -> BlockWords
     rules::multiplexer(bits[0], bits[1], bits[2], params)
 }
 
+// A block of kind 17: R, Cnt, Dir.
+fn count_block(bits: [bool; 4], p: Prepared, was: BlockWords) -> BlockWords
+    ensures { λ r. ⌜ r ≡ upDownCounter (bit bits 0) (bit bits 1) (bit bits 2) (wasBit was) (wasOn was) (wasNumber was) (p .params) ⌝ }
+{
+    let count = was_number(was);
+    let params = p.params;
+    counter::up_down_counter(
+        bits[0],
+        bits[1],
+        bits[2],
+        was_bit(was),
+        was_on(was),
+        count,
+        params,
+    )
+}
+
+// A block of kind 18: Trg.
+fn stairs_block(bits: [bool; 4], p: Prepared, was: BlockWords, e: Ticks) -> BlockWords
+    requires { ⌜ (p .time .0 < 2 ^ 31) × (p .warning .0 ≤ p .time .0) × (p .dark .0 ≤ p .time .0) × (e .0 < 2 ^ 31) ⌝ }
+    ensures { λ r. ⌜ r ≡ stairwaySwitch (bit bits 0) (wasPressed was) (wasRunning was) (ticks (wasNumber was)) (p .time) (p .warning) (p .dark) e ⌝ }
+{
+    let ta = Ticks(was_number(was));
+    let t = p.time;
+    let warning = p.warning;
+    let dark = p.dark;
+    stairway::stairway_switch(
+        bits[0],
+        was_pressed(was),
+        was_running(was),
+        ta,
+        t,
+        warning,
+        dark,
+        e,
+    )
+}
+
 // No block has another kind.
 fn nothing() -> BlockWords
     ensures { λ r. ⌜ r ≡ three (pos 0) (pos 0) (pos 0) ⌝ }
@@ -172,6 +246,8 @@ pub fn worked_out(
         14 => compare_block(analog, p, was),
         15 => choice_block(bits, p),
         16 => trigger_block(analog, p, was),
+        17 => count_block(bits, p, was),
+        18 => stairs_block(bits, p, was, e),
         _ => nothing(),
     }
 }

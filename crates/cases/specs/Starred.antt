@@ -1,5 +1,5 @@
--- Document 01, "Cases (starred: proved)": the eleven starred cases as one table. A row says what is played, with `play` of crates/calls, and
--- what must come out; `starred` is the theorem that it does.
+-- Document 01, "Cases (starred: proved)": the eleven starred cases as one table, and behind them two of kinds 17 and 18. A row says what
+-- is played, with `play` of crates/calls, and what must come out; `starred` is the theorem that it does.
 use Prim.Native.Nat.{ℕ, _-_}
 use mathlib.Core.Path.{_≡_}
 use mathlib.Core.List.{List, [], _∷_, _++_, map}
@@ -113,6 +113,14 @@ above5 = blockOf 13 (fromAnalog 1 ∷ []) (pos 100 ∷ pos 0 ∷ pos 5 ∷ pos 5
 abbrev register : Block
 register = blockOf 12 (fromI 1 ∷ fromI 2 ∷ fromI 3 ∷ []) (pos 1 ∷ pos 1 ∷ [])
 
+-- R I1, Cnt I2, Dir I3; On = Off = 5
+abbrev from5 : Block
+from5 = blockOf 17 (fromI 1 ∷ fromI 2 ∷ fromI 3 ∷ []) (pos 5 ∷ pos 5 ∷ [])
+
+-- Trg I1; base 0, T 6, T! 3, T!L 2
+abbrev stairs : Block
+stairs = blockOf 18 (fromI 1 ∷ []) (pos 0 ∷ pos 6 ∷ pos 3 ∷ pos 2 ∷ [])
+
 -- no block; the rows M1 from M2 and M2 from M1
 abbrev exchange : List ℕ
 exchange = encode (record { version = 1; n = 0; blocks = []; rows = to M 1 (fromM 2) ∷ to M 2 (fromM 1) ∷ [] })
@@ -164,6 +172,9 @@ actual m = at (m .outputs) 0 ∷ actualOf (word (m .rec) (analog 1)) (minus 33) 
 abbrev numberOf1 : Moment → List ℤ
 numberOf1 m = word (m .rec) (number 1) ∷ []
 
+abbrev q1AndNumber : Moment → List ℤ
+q1AndNumber m = q1 m ++ numberOf1 m
+
 abbrev flags : Moment → List ℤ
 flags m = word (m .rec) (flag 1) ∷ word (m .rec) (flag 2) ∷ []
 
@@ -194,6 +205,11 @@ once b from r watched words =
 abbrev shifted : List ℕ → ℕ → Case
 shifted bits next = once register (but (filled 1 0) (number 1) 128) (reading bits []) numberOf1 (pos next ∷ [])
 
+-- the counter, which holds n and had Q q; Cnt rises
+abbrev counted : ℕ → ℕ → ℕ → ℕ → ℕ → Case
+counted n q dir next q′ =
+    once from5 (but (but (filled 1 0) (number 1) n) (output 1) q) (reading (0 ∷ 1 ∷ dir ∷ []) []) q1AndNumber (pos q′ ∷ pos next ∷ [])
+
 -- a run of 0 blocks in a scan with d blocks done
 abbrev run0 : ℕ → ℕ → Case
 run0 d toGo =
@@ -205,7 +221,7 @@ run0 d toGo =
       out = seen (acceptedWith 0 toGo ∷ []) (whole (inScan d)) ∷ [];
     }
 
--- a row for each starred line, in the paper's order: the cases that the line names
+-- a row for each starred line, in the paper's order, then the two of document 02: the cases that the line names
 unfoldable pub table : List (List Case)
 table =
     -- "Empty circuit: 1 at 0."
@@ -237,4 +253,8 @@ table =
     ∷ [])
     -- "Run of 0 blocks in a scan: nothing changes; answer 0, 0, 0 and the blocks to go."
     ∷ (run0 0 1 ∷ run0 1 0 ∷ [])
+    -- document 02, No. 2, worked out by hand. Counter, On = Off = 5: from 4 up to 5 gives 1, from 5 down to 4 gives 0.
+    ∷ (counted 4 0 0 5 1 ∷ counted 5 1 1 4 0 ∷ [])
+    -- Stairway switch, T 6, T! 3, T!L 2, e 1, Trg 1, 1, 0, 0, ..: Q 1 1 1 1 1 0 0 1 0.
+    ∷ (q1Over stairs 1 (map bit (1 ∷ 1 ∷ 0 ∷ 0 ∷ 0 ∷ 0 ∷ 0 ∷ 0 ∷ 0 ∷ [])) (1 ∷ 1 ∷ 1 ∷ 1 ∷ 1 ∷ 0 ∷ 0 ∷ 1 ∷ 0 ∷ []) ∷ [])
     ∷ []

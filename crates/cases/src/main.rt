@@ -1,5 +1,6 @@
 // Judges each circuit that an argument names, and prints the name and the answer, a line to each. An accepted one it also plays: a cold start
-// and 551 scans in turns, of which it shows the first two and the last two, and a latch that must be refused.
+// and 551 scans in turns, of which it shows the first two and the last two, and a latch that must be refused; and a cold start and nine
+// scans, a tick apart, of which it shows Q1.
 ghost use mathlib.Core.Path.{_≡_};
 ghost use lib.ListN.{length};
 use report::ROOM;
@@ -26,14 +27,27 @@ fn reading(scan: u32, analog: i32) -> [i32; 32] {
     inputs
 }
 
+// 32 input words: I1 is 1 in the first two scans, I2 in every second from the first on; the others are 0.
+fn short_reading(scan: u32) -> [i32; 32] {
+    let mut inputs = [0i32; 32];
+    inputs[0] = words::word_of(scan <= 2);
+    inputs[1] = words::word_of(scan % 2 == 1);
+    inputs
+}
+
 // Latch, a turn of one block, a turn of none, a turn of the others, publish.
-fn scan_once(circuit: &[u8], rec: &mut [i32], outs: &mut [i32], scan: u32) {
-    let inputs = reading(scan, 1000);
-    scan::latch(circuit, rec, &inputs, 65535);
+fn scan_of(circuit: &[u8], rec: &mut [i32], outs: &mut [i32], inputs: &[i32], e: i32) {
+    scan::latch(circuit, rec, inputs, e);
     scan::run(circuit, rec, 1);
     scan::run(circuit, rec, 0);
     scan::run(circuit, rec, 4294967295);
     scan::publish(circuit, rec, outs);
+}
+
+// A scan of the long play.
+fn scan_once(circuit: &[u8], rec: &mut [i32], outs: &mut [i32], scan: u32) {
+    let inputs = reading(scan, 1000);
+    scan_of(circuit, rec, outs, &inputs, 65535);
 }
 
 // The scans from one number up to another.
@@ -92,6 +106,39 @@ fn played(path: &[u8], circuit: &[u8], rec: &mut [i32]) {
     report::line(scan::latch(circuit, rec, &inputs, 65535));
 }
 
+// A scan, a tick behind the one before, and its Q1.
+fn short_scan(circuit: &[u8], rec: &mut [i32], scan: u32) {
+    let mut outs = [7i32; 28];
+    let inputs = short_reading(scan);
+    scan_of(circuit, rec, &mut outs, &inputs, 1);
+    report::text(b" ");
+    report::word(outs[0]);
+}
+
+// Nine of them.
+fn nine_scans(circuit: &[u8], rec: &mut [i32]) {
+    let mut scan = 1;
+    while scan < 10 {
+        short_scan(circuit, rec, scan);
+        scan += 1;
+    }
+}
+
+// The name, and nine scans from a cold start on.
+fn played_shortly(path: &[u8], circuit: &[u8], rec: &mut [i32]) {
+    scan::cold_start(circuit, rec);
+    report::text(path);
+    report::text(b" nine scans: Q1");
+    nine_scans(circuit, rec);
+    report::text(b"\n");
+}
+
+// Both.
+fn played_twice(path: &[u8], circuit: &[u8], rec: &mut [i32]) {
+    played(path, circuit, rec);
+    played_shortly(path, circuit, rec);
+}
+
 // Room for the longest record. The `ensures` gives only the length, which lending a part of the array needs.
 fn longest() -> [i32; 1364]
     ensures { λ r. ⌜ 1364 ≡ length r ⌝ }
@@ -103,7 +150,7 @@ fn longest() -> [i32; 1364]
 fn played_with(path: &[u8], circuit: &[u8], n: usize) {
     if n <= BLOCKS {
         let mut room = longest();
-        played(path, circuit, &mut room[..164 + 3 * n]);
+        played_twice(path, circuit, &mut room[..164 + 3 * n]);
     }
 }
 

@@ -1,5 +1,5 @@
 -- The tests of a connector, of parameters, of an index and of a destination against the rules that they stand for. Assumes nothing.
-use mathlib.Core.Path.{_≡_, refl, ap, _∙_}
+use mathlib.Core.Path.{_≡_, refl, ap}
 use mathlib.Core.Logic.{_↔_}
 use mathlib.Core.Bool.{Bool, true, false, not, _&&_}
 use mathlib.Core.List.{List, [], _∷_}
@@ -8,14 +8,15 @@ use native.Mathlib.Omega.{arith}
 use lib.Dec.{eqb, ltb}
 use lib.ListN.{length, getD}
 use lib.IntN.{ℤ, pos}
+use lib.Signed.{leZ}
 use mir.Syntax.{w32}
 use mir.Val.{SFits}
 use borrow.Author.Tests.{lt-ltb, le-ltb, lt-leb, le-leb, eq-eqb, ne-eqb, ltb-false, leb-true, leb-false, eqb-true, eqb-false}
 use Rattle.words.specs.Signed.{over}
 use Rattle.kinds.specs.Time.{longest}
-use Rattle.kinds.specs.Kinds.{Range, In, _to_, kindOf, parameter, settingsFit, settingFits, rangesFit, allowed}
+use Rattle.kinds.specs.Kinds.{Range, In, _to_, kindOf, parameter, settingsFit, settingFits, inOrder, rangesFit, allowed}
 use Rattle.kinds.proofs.Rows.{small-kind}
-use Rattle.kinds.proofs.Allowed.{param-in}
+use Rattle.kinds.proofs.Allowed.{param-in, each-setting, each-ordered}
 use Rattle.refusals.specs.declared.Limits.{Limits}
 use Rattle.connectors.specs.Connectors.{Connector, classOf, isInverted, member, takes, inverts, least, namesBlock, unknownRow, misfits, wrongSort, wrong, later, anyOf}
 use Rattle.blockfield.specs.BlockField.{shiftRegister}
@@ -121,18 +122,21 @@ Setting vs j = In (pos 0 to pos (longest (over (parameter vs 0)))) (parameter vs
 settings-iff : (vs : List ℤ) (n : ℕ) → (settingsFit n vs ≡ true) ↔ ((j : ℕ) → 1 ≤ j → j ≤ n → Setting vs j)
 settings-iff vs zero = (λ e j l h. let z : ⊥ = omega arith in absurd z, λ f. refl)
 settings-iff vs (suc n) = (
-  λ e j l h.
-      let p = and-iff (settingFits (parameter vs 0) (parameter vs (suc n))) (settingsFit n vs) .0 e in
-      last j (p .0) (λ m. settings-iff vs n .0 (p .1) j l m) h (eqb j (suc n)) refl,
+  λ e j l h. record { between = each-setting (suc n) vs e j l h },
   λ f.
       and-iff (settingFits (parameter vs 0) (parameter vs (suc n))) (settingsFit n vs) .1
       (f (suc n) (omega arith) (omega arith) .between, settings-iff vs n .1 (λ j l h. f j l (omega arith))),
 )
-  where
-    last : (j : ℕ) → settingFits (parameter vs 0) (parameter vs (suc n)) ≡ true → (j ≤ n → Setting vs j) → j ≤ suc n → (b : Bool)
-        → eqb j (suc n) ≡ b → Setting vs j
-    last j e rest h true q = record { between = ap (λ (i : ℕ). settingFits (parameter vs 0) (parameter vs i)) (eqb-true j (suc n) q) ∙ e }
-    last j e rest h false q = let ne = eqb-false j (suc n) q in rest (omega (arith, ne))
+
+order-iff : (vs : List ℤ) (n : ℕ) → (inOrder n vs ≡ true) ↔ ((j : ℕ) → 1 ≤ j → j < n → leZ (parameter vs (suc j)) (parameter vs j) ≡ true)
+order-iff vs zero = (λ e. each-ordered 0 vs e, λ f. refl)
+order-iff vs (suc zero) = (λ e. each-ordered 1 vs e, λ f. refl)
+order-iff vs (suc (suc n)) = (
+  λ e. each-ordered (suc (suc n)) vs e,
+  λ f.
+      and-iff (leZ (parameter vs (suc (suc n))) (parameter vs (suc n))) (inOrder (suc n) vs) .1
+      (f (suc n) (omega arith) (omega arith), order-iff vs (suc n) .1 (λ j l h. f j l (omega arith))),
+)
 
 module _ (kind : ℕ) (vs : List ℤ) where
   pub right-parameters : length vs ≡ length (kindOf kind .parameters) → All (SFits w32) vs → allowed kind vs ≡ true
@@ -140,19 +144,23 @@ module _ (kind : ℕ) (vs : List ℤ) where
   unfolding allowed
   right-parameters q fit e =
       let few = small-kind kind .parameters in
+      let n = kindOf kind .times in
+      let rest = and-iff (settingsFit n vs) (inOrder n vs) .0 (and-iff (rangesFit (kindOf kind) vs) _ .0 e .1) in
       record {
         fit = fit;
         ranges = in-each (kindOf kind .parameters) vs q (λ j less. param-in kind vs e j (omega arith));
-        settings = settings-iff vs (kindOf kind .times) .0 (and-iff (rangesFit (kindOf kind) vs) _ .0 e .1);
+        settings = settings-iff vs n .0 (rest .0);
+        order = λ j l h. order-iff vs n .0 (rest .1) j l (omega arith);
       }
 
   pub are-allowed : Parameters (kindOf kind) vs → allowed kind vs ≡ true
   unfolding allowed
   are-allowed k =
       let at = each-in (kindOf kind .parameters) vs (k .ranges) in
-      and-iff (rangesFit (kindOf kind) vs) (settingsFit (kindOf kind .times) vs) .1 (
+      let n = kindOf kind .times in
+      and-iff (rangesFit (kindOf kind) vs) (settingsFit n vs && inOrder n vs) .1 (
         and-iff _ _ .1 (at 0 .between, and-iff _ _ .1 (at 1 .between, and-iff _ _ .1 (at 2 .between, at 3 .between))),
-        settings-iff vs (kindOf kind .times) .1 (k .settings),
+        and-iff (settingsFit n vs) (inOrder n vs) .1 (settings-iff vs n .1 (k .settings), order-iff vs n .1 (k .order)),
       )
 
 -- ---- destinations and shift registers

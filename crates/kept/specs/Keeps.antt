@@ -4,9 +4,10 @@ use mathlib.Core.Path.{_≡_}
 use mathlib.Core.Bool.{true, false}
 use mathlib.Core.List.{List, [], _∷_, _++_}
 use mathlib.Core.Option.{Option, none, some}
-use Prim.Native.Nat.{ℕ, _+_, _≤_, _<_}
+use Prim.Native.Nat.{ℕ, suc, _+_, _≤_, _<_}
 use lib.ListN.{length, getD, take, drop}
 use lib.IntN.{ℤ, pos}
+use lib.Signed.{leZ}
 use mir.Syntax.{w32}
 use mir.Val.{ofZ, SFits}
 use Rattle.words.specs.Bytes.{bytesOf}
@@ -74,6 +75,8 @@ pub record Parameters (k : Kind) (vs : List ℤ) : Type 0 where
   pub ranges : Match In (k .parameters) vs
   -- "0 seconds (T 0..9999, hundredths), 1 minutes (0..5999 seconds), 2 hours (0..5999 minutes)": each setting behind the timebase
   pub settings : (j : ℕ) → 1 ≤ j → j ≤ k .times → In (pos 0 to pos (longest (over (parameter vs 0)))) (parameter vs j)
+  -- "T!L ≤ T! ≤ T"
+  pub order : (j : ℕ) → 1 ≤ j → j < k .times → leZ (parameter vs (suc j)) (parameter vs j) ≡ true
 
 -- ---- blocks
 
@@ -88,10 +91,10 @@ Labelled none = Unit {0}
 Labelled (some x) = Label x
 
 pub record BlockKeeps (limits : Limits) (n : ℕ) (b : Block) : Type 0 where
-  -- "Sixteen kinds"
+  -- "Sixteen kinds", and 17 and 18
   pub kind-low : 1 ≤ b .kind
   pub kind-high : b .kind < length kinds
-  -- "Option bit 0 is retentive, allowed on kinds 9 to 12; other bits are 0"
+  -- "Option bit 0 is retentive, allowed on kinds 9 to 12; other bits are 0"; 17 and 18 "may be retentive"
   pub option : b .option ≤ mostOption (kindOf (b .kind))
   -- "each with its inputs in this order", the digital ones first, "then its parameters"
   pub inputs : length (b .inputs) ≡ kindOf (b .kind) .digitals + kindOf (b .kind) .analogs

@@ -66,7 +66,7 @@ pub record Small (k : Kind) : Type 0 where
   pub analogs : k .analogs ≤ 2
   pub inputs : k .digitals + k .analogs ≤ 4
   pub parameters : length (k .parameters) ≤ 4
-  pub times : k .times ≤ 1
+  pub times : k .times ≤ 3
   pub length-is : contentLength k ≤ 27
 
 pub small-kind : (kind : ℕ) → Small (kindOf kind)
@@ -77,6 +77,6 @@ small-kind kind =
       analogs = at-most (λ k. k .analogs) 2 refl refl kind;
       inputs = at-most (λ k. k .digitals + k .analogs) 4 refl refl kind;
       parameters = at-most (λ k. length (k .parameters)) 4 refl refl kind;
-      times = at-most (λ k. k .times) 1 refl refl kind;
+      times = at-most (λ k. k .times) 3 refl refl kind;
       length-is = at-most contentLength 27 refl refl kind;
     }

@@ -1,10 +1,12 @@
--- Document 01, "The blocks": the table by kind. "Sixteen kinds, each with its inputs in this order, then its parameters."
+-- Document 01, "The blocks": the table by kind. "Sixteen kinds, each with its inputs in this order, then its parameters." Document 02,
+-- No. 2: kinds 17 and 18.
 use Prim.Native.Nat.{ℕ, zero, suc, _+_, _*_}
 use mathlib.Core.Bool.{Bool, true, false, _&&_}
 use mathlib.Core.List.{List, [], _∷_}
 use lib.Dec.{leb, ltb}
 use lib.ListN.{length, getD}
 use lib.IntN.{ℤ, pos}
+use lib.Signed.{leZ}
 use Rattle.words.specs.Signed.{minus, over, isWithin, Between}
 use Rattle.kinds.specs.Time.{longest}
 use Rattle.kinds.specs.declared.Ticks.{Ticks}
@@ -47,13 +49,14 @@ pub record Kind : Type 0 where
   pub parameters : List Range
   -- how many settings follow the timebase, which is the first parameter; 0 where there is none
   pub times : ℕ
-  -- "Option bit 0 is retentive, allowed on kinds 9 to 12"
+  -- "Option bit 0 is retentive, allowed on kinds 9 to 12"; of kinds 17 and 18 "Both may be retentive"
   pub retentive : Bool
   -- "digital block", "analog block"
   pub output : Sort
-  -- the greatest remembered word: 1 where a bit is remembered ("all inputs 1 for kinds 2 and 4; Trg for 9, 10, 12"), else 0
+  -- the greatest remembered word: 1 where a bit is remembered ("all inputs 1 for kinds 2 and 4; Trg for 9, 10, 12", and Cnt for 17), 3
+  -- for 18 ("Trg, plus 2 while running"), else 0
   pub remembered : ℕ
-  -- "number (Ta, or the register ..)"
+  -- "number (Ta, or the register ..)"; the count of 17
   pub number : Number
 
 -- ---- the parameters
@@ -76,6 +79,18 @@ sixteen = minus 32768 to pos 32767
 
 unfoldable pub chosen : List Range
 chosen = sixteen ∷ sixteen ∷ sixteen ∷ sixteen ∷ []
+
+-- the greatest count: "0..999,999"
+abbrev pub mostCount : ℕ
+mostCount = 999999
+
+-- "On, Off 0..999,999"
+abbrev pub counted : List Range
+counted = pos 0 to pos mostCount ∷ pos 0 to pos mostCount ∷ []
+
+-- base, T, T!, T!L: "One base", each in the widest of its ranges
+abbrev pub warned : List Range
+warned = pos 0 to pos 2 ∷ pos 0 to pos 9999 ∷ pos 0 to pos 9999 ∷ pos 0 to pos 9999 ∷ []
 
 -- ---- the kinds
 
@@ -118,6 +133,14 @@ trigger n = row 0 n false scaled 0 false digital 0 none
 abbrev pub choosing : Kind
 choosing = row 3 0 false chosen 0 false analog 0 none
 
+-- the up/down counter: "A sound count is 0..999,999"
+abbrev pub counting : Kind
+counting = row 3 0 false counted 0 true digital 1 (upTo mostCount)
+
+-- the stairway switch
+abbrev pub stairway : Kind
+stairway = row 1 0 false warned 3 true digital 3 elapsed
+
 -- the table, by kind; no block has kind 0
 unfoldable pub kinds : List Kind
 kinds =
@@ -138,6 +161,8 @@ kinds =
     ∷ trigger 2  -- 14 comparator: Ax, Ay; A, B, On, Off
     ∷ choosing  -- 15 multiplexer: En, S1, S2; V1..V4
     ∷ trigger 1  -- 16 differential trigger: Ax; A, B, On, Δ
+    ∷ counting  -- 17 up/down counter: R, Cnt, Dir; On, Off
+    ∷ stairway  -- 18 stairway switch: Trg; base, T, T!, T!L
     ∷ []
 
 -- the entry of a kind
@@ -178,6 +203,12 @@ abbrev pub settingsFit : ℕ → List ℤ → Bool
 settingsFit zero p = true
 settingsFit (suc n) p = settingFits (parameter p 0) (parameter p (suc n)) && settingsFit n p
 
+-- "T!L ≤ T! ≤ T": no setting is greater than the one before it
+abbrev pub inOrder : ℕ → List ℤ → Bool
+inOrder zero p = true
+inOrder (suc zero) p = true
+inOrder (suc (suc n)) p = leZ (parameter p (suc (suc n))) (parameter p (suc n)) && inOrder (suc n) p
+
 -- each parameter is in its range
 abbrev pub rangesFit : Kind → List ℤ → Bool
 rangesFit k p =
@@ -188,10 +219,10 @@ rangesFit k p =
 
 -- whether a block of a kind may have these parameters
 unfoldable pub allowed : ℕ → List ℤ → Bool
-allowed kind p = rangesFit (kindOf kind) p && settingsFit (kindOf kind .times) p
+allowed kind p = rangesFit (kindOf kind) p && (settingsFit (kindOf kind .times) p && inOrder (kindOf kind .times) p)
 
 -- ---- which words a block may have: "block words that the block's kind has no use for 0, .. bits 0 or 1, Ta 0..T in ticks,
--- register 0..255, .. multiplexer outputs −32,768..32,767"
+-- register 0..255, .. multiplexer outputs −32,768..32,767"; "A sound count is 0..999,999"
 
 abbrev pub sortRange : Sort → Range
 sortRange digital = pos 0 to pos 1

@@ -1,11 +1,12 @@
 // The one constant table by kind; settings, ticks, and the one conversion between them.
 ghost use mathlib.Core.Path.{_≡_};
-ghost use Prim.Native.Nat.{_≤_, _<_};
+ghost use Prim.Native.Nat.{_+_, _≤_, _<_};
 ghost use lib.ListN.{length};
 ghost use lib.IntN.{pos};
+ghost use lib.Signed.{leZ};
 ghost use Rattle.words.specs.Signed.{Between, over, bitOf};
 ghost use Rattle.kinds.specs.Time.{longest, settingOf, ticksOf};
-ghost use Rattle.kinds.specs.Kinds.{known, kindOf, isAnalog, contentLength, inRange, rangeAt, settingFits, settingsFit, rangesFit, allowed, outputRange, rememberedRange, mostOf, numberRange};
+ghost use Rattle.kinds.specs.Kinds.{known, kindOf, isAnalog, contentLength, inRange, rangeAt, parameter, settingFits, settingsFit, inOrder, rangesFit, allowed, outputRange, rememberedRange, mostOf, numberRange};
 ghost use Rattle.kinds.specs.Table.{kindsTable, cell, Lent};
 
 // A number in its timebase: the base (0 seconds, 1 minutes, 2 hours), and the number.
@@ -35,7 +36,9 @@ pub fn ticks_of(s: Setting) -> Ticks
     }
 }
 
-// The ends of A, of B, of On, Off and Δ, and of V.
+// The ends of T, of A, of B, of On, Off and Δ, of V, and of a count.
+const T: i32 = 9999;
+
 const A: i32 = 1000;
 
 const B: i32 = 10000;
@@ -46,12 +49,14 @@ const W: i32 = -32768;
 
 const V: i32 = 32767;
 
+const N: i32 = 999999;
+
 // A row of words for each kind.
 pub type KindTable = [[i32; COLUMNS]; ROWS];
 
 const COLUMNS: usize = 18;
 
-const ROWS: usize = 17;
+const ROWS: usize = 19;
 
 // By kind, from 0. Digital inputs, analog inputs, what an unused one counts; parameters, settings among them; retentive or not;
 // output analog or not, greatest remembered word, greatest number (-1: Ta); content length; least of four parameters, greatest.
@@ -65,14 +70,16 @@ const KINDS: KindTable = [
     [4, 0, 0, 0, 0, 0, 0, 0, 0, 14, 0, 0, 0, 0, 0, 0, 0, 0], //  6 NOR
     [2, 0, 0, 0, 0, 0, 0, 0, 0, 8, 0, 0, 0, 0, 0, 0, 0, 0], //  7 XOR
     [1, 0, 0, 0, 0, 0, 0, 0, 0, 5, 0, 0, 0, 0, 0, 0, 0, 0], //  8 NOT
-    [1, 0, 0, 2, 1, 1, 0, 1, -1, 13, 0, 0, 0, 0, 2, 9999, 0, 0], //  9 on-delay
-    [2, 0, 0, 2, 1, 1, 0, 1, -1, 16, 0, 0, 0, 0, 2, 9999, 0, 0], // 10 off-delay
+    [1, 0, 0, 2, 1, 1, 0, 1, -1, 13, 0, 0, 0, 0, 2, T, 0, 0], //  9 on-delay
+    [2, 0, 0, 2, 1, 1, 0, 1, -1, 16, 0, 0, 0, 0, 2, T, 0, 0], // 10 off-delay
     [2, 0, 0, 0, 0, 1, 0, 0, 0, 8, 0, 0, 0, 0, 0, 0, 0, 0], // 11 latching relay
     [3, 0, 0, 2, 0, 1, 0, 1, 255, 19, 1, 1, 0, 0, 4, 8, 0, 0], // 12 shift register
     [0, 1, 0, 4, 0, 0, 0, 0, 0, 21, -A, -B, -L, -L, A, B, L, L], // 13 analog threshold trigger
     [0, 2, 0, 4, 0, 0, 0, 0, 0, 24, -A, -B, -L, -L, A, B, L, L], // 14 comparator
     [3, 0, 0, 4, 0, 0, 1, 0, 0, 27, W, W, W, W, V, V, V, V], // 15 multiplexer
     [0, 1, 0, 4, 0, 0, 0, 0, 0, 21, -A, -B, -L, -L, A, B, L, L], // 16 differential trigger
+    [3, 0, 0, 2, 0, 1, 0, 1, N, 19, 0, 0, 0, 0, N, N, 0, 0], // 17 up/down counter
+    [1, 0, 0, 4, 3, 1, 0, 3, -1, 21, 0, 0, 0, 0, 2, T, T, T], // 18 stairway switch
 ];
 
 // The table, to be read once in an open call and lent: a constant array is stored anew at each reading.
@@ -173,7 +180,7 @@ pub fn parameters(kinds: &KindTable, kind: usize) -> usize
 // How many settings follow the timebase.
 pub fn times(kinds: &KindTable, kind: usize) -> usize
     requires { ⌜ Lent (now kinds) kind ⌝ }
-    ensures { λ r. ⌜ (r ≡ kindOf kind .times) × (r ≤ 1) ⌝ }
+    ensures { λ r. ⌜ (r ≡ kindOf kind .times) × (r ≤ 3) ⌝ }
 {
     count(kinds, kind, TIMES)
 }
@@ -218,11 +225,7 @@ pub fn parameter_fits(kinds: &KindTable, kind: usize, j: usize, x: i32) -> bool
 pub fn longest_of(base: i32) -> i32
     ensures { λ r. ⌜ r ≡ pos (longest (over base)) ⌝ }
 {
-    if words::amount_of(base) == 0 {
-        9999
-    } else {
-        5999
-    }
+    if words::amount_of(base) == 0 { T } else { 5999 }
 }
 
 // Whether a setting is in the range of its timebase.
@@ -232,15 +235,56 @@ pub fn setting_fits(base: i32, t: i32) -> bool
     words::within(t, 0, longest_of(base))
 }
 
-// Whether the settings among the parameters are.
-fn settings_fit(kinds: &KindTable, kind: usize, params: [i32; 4]) -> bool
-    requires { ⌜ Lent (now kinds) kind ⌝ }
-    ensures { λ r. ⌜ r ≡ settingsFit (kindOf kind .times) params ⌝ }
+// Whether setting j, from 1, among the parameters is.
+fn fits_base(params: [i32; 4], j: usize) -> bool
+    requires { ⌜ j < 4 ⌝ }
+    ensures { λ r. ⌜ r ≡ settingFits (parameter params 0) (parameter params j) ⌝ }
 {
-    if times(kinds, kind) == 0 {
+    setting_fits(params[0], params[j])
+}
+
+// Whether the first n settings are.
+fn settings_fit(n: usize, params: [i32; 4]) -> bool
+    requires { ⌜ n ≤ 3 ⌝ }
+    ensures { λ r. ⌜ r ≡ settingsFit n params ⌝ }
+{
+    if n == 0 {
         return true;
     }
-    setting_fits(params[0], params[1])
+    let first = fits_base(params, 1);
+    if n == 1 {
+        return first;
+    }
+    let second = words::both(fits_base(params, 2), first);
+    if n == 2 {
+        return second;
+    }
+    words::both(fits_base(params, 3), second)
+}
+
+// Whether parameter j + 1 is at most parameter j.
+fn falls_behind(params: [i32; 4], j: usize) -> bool
+    requires { ⌜ j < 3 ⌝ }
+    ensures { λ r. ⌜ r ≡ leZ (parameter params (j + 1)) (parameter params j) ⌝ }
+{
+    let later = params[j + 1];
+    let earlier = params[j];
+    later <= earlier
+}
+
+// Whether none of the first n settings is greater than the one before it.
+fn in_order(n: usize, params: [i32; 4]) -> bool
+    requires { ⌜ n ≤ 3 ⌝ }
+    ensures { λ r. ⌜ r ≡ inOrder n params ⌝ }
+{
+    if n < 2 {
+        return true;
+    }
+    let second = falls_behind(params, 1);
+    if n == 2 {
+        return second;
+    }
+    words::both(falls_behind(params, 2), second)
 }
 
 // Whether the ranges of the table take the parameters.
@@ -260,9 +304,10 @@ pub fn are_allowed(kinds: &KindTable, kind: usize, params: [i32; 4]) -> bool
     requires { ⌜ Lent (now kinds) kind ⌝ }
     ensures { λ r. ⌜ r ≡ allowed kind params ⌝ }
 {
+    let n = times(kinds, kind);
     words::both(
         ranges_fit(kinds, kind, params),
-        settings_fit(kinds, kind, params),
+        words::both(settings_fit(n, params), in_order(n, params)),
     )
 }
 

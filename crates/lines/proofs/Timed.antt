@@ -1,8 +1,8 @@
--- The ticks that a block sets: none where its kind has no setting, else those of its first two parameters. Assumes nothing.
+-- T of a block in ticks: none where its kind has no setting, else those of its first two parameters. Assumes nothing.
 use mathlib.Core.Path.{_≡_, refl, sym, ap, _∙_, subst}
 use mathlib.Core.Bool.{Bool, true, cond}
 use mathlib.Core.List.{List}
-use Prim.Native.Nat.{ℕ, zero, suc, _+_, _*_, _≤_}
+use Prim.Native.Nat.{ℕ, _+_, _*_, _≤_}
 use native.Mathlib.Omega.{arith}
 use lib.Dec.{leb}
 use lib.ListN.{length}
@@ -45,7 +45,7 @@ module _ (s : List ℕ) (at kind : ℕ) (is : kind ≡ kindAt s at) where
   unfolding lineOf prepared
   not-timed e =
       let p = fourOf (parametersAt s at (kindOf (kindAt s at))) in
-      ap (λ (n : ℕ). timeOf n p) (sym e ∙ ap (λ (k : ℕ). kindOf k .times) is)
+      ap (λ (n : ℕ). timeOf n 1 p) (sym e ∙ ap (λ (k : ℕ). kindOf k .times) is)
 
   module _ (lies : Lies s at) (from : ℕ) (begins : from ≡ parametersFrom at (kindOf kind)) (h : 1 ≤ kindOf kind .times) where
     abbrev count : ℕ
@@ -64,9 +64,8 @@ module _ (s : List ℕ) (at kind : ℕ) (is : kind ≡ kindAt s at) where
         let e : parametersFrom at (kindOf kind) + 4 * 1 ≡ from + 4 = omega arith in
         signed-in s count (parametersFrom at (kindOf kind)) 1 (two-parameters kind h) ∙ ap (signedAt s) e
 
-    is-set : (n : ℕ) → 1 ≤ n → ticksOf (settingOf (signedAt s from) (signedAt s (from + 4))) ≡ timeOf n (fourOf params)
-    is-set zero l = let z : ⊥ = omega arith in absurd z
-    is-set (suc n) l = rw (base, time)
+    is-set : (n : ℕ) → 1 ≤ n → ticksOf (settingOf (signedAt s from) (signedAt s (from + 4))) ≡ timeOf n 1 (fourOf params)
+    is-set n l = rw (le-leb 1 n l, base, time)
 
     pub pair : Pair s at from
     unfolding lineOf prepared
@@ -75,7 +74,7 @@ module _ (s : List ℕ) (at kind : ℕ) (is : kind ≡ kindAt s at) where
         let there : (at + 3) + contentLength (kindOf kind) ≤ length s = subst (λ (k : ℕ). (at + 3) + contentLength (kindOf k) ≤ length s) (sym is) (lies .inside) in
         record {
           inside = omega (arith, two-parameters kind h);
-          base-is = rw (← base) (base-in kind params ok h);
-          time-is = rw (← time) (time-in kind params ok h);
-          ticks-are = is-set (kindOf kind .times) h ∙ ap (λ (k : ℕ). timeOf (kindOf k .times) (fourOf (parametersAt s at (kindOf k)))) is;
+          base-is = rw (← base) (base-in kind params ok 1 (omega arith) h);
+          time-is = rw (← time) (time-in kind params ok 1 (omega arith) h);
+          ticks-are = is-set (kindOf kind .times) h ∙ ap (λ (k : ℕ). timeOf (kindOf k .times) 1 (fourOf (parametersAt s at (kindOf k)))) is;
         }

@@ -2,7 +2,7 @@
 ghost use mathlib.Core.Path.{_≡_};
 ghost use Prim.Native.Nat.{_+_, _*_, _≤_, _<_};
 ghost use lib.ListN.{length};
-ghost use Rattle.kinds.specs.Table.{kindsTable};
+ghost use Rattle.kinds.specs.Table.{kindsTable, rows};
 ghost use Rattle.connectors.specs.Connectors.{connectorsAt};
 ghost use Rattle.blockfield.specs.BlockField.{kindAt};
 ghost use Rattle.blockfield.specs.Marked.{Lies};
@@ -72,12 +72,12 @@ fn numbers_at(bytes: &[u8], from: usize, count: usize) -> [usize; 4]
 // The kind of the block at a place.
 pub fn kind_at(bytes: &[u8], at: usize) -> usize
     requires { ⌜ Lies (now bytes) at ⌝ }
-    ensures { λ r. ⌜ (r ≡ kindAt (now (bytes .entry)) at) × (r < 17) ⌝ }
+    ensures { λ r. ⌜ (r ≡ kindAt (now (bytes .entry)) at) × (r < rows) ⌝ }
 {
     words::byte_at(bytes, at + 3)
 }
 
-// The ticks that it sets, read from its timebase and its T alone.
+// Its T in ticks, read from its timebase and its T alone.
 pub fn time_at(kinds: &KindTable, bytes: &[u8], at: usize) -> Ticks
     requires { ⌜ (now kinds ≡ kindsTable) × Lies (now bytes) at ⌝ }
     ensures { λ r. ⌜ r ≡ lineOf (blockAt (now (bytes .entry)) at) .prepared .time ⌝ }

@@ -6,13 +6,13 @@ use mathlib.Core.List.{List, [], _∷_, _++_, map}
 use mathlib.Core.Option.{Option, none, some}
 use Prim.Native.Nat.{ℕ, suc, _+_, _≤_, _<_}
 use native.Mathlib.Omega.{arith}
-use lib.Dec.{eqb, leb, ltb}
+use lib.Dec.{eqb}
 use lib.ListN.{length, getD, drop, length-append}
 use lib.Seq.{getD-append-add}
 use lib.IntN.{ℤ, pos}
-use borrow.Author.Tests.{eq-eqb, ltb-true, le-leb}
-use Rattle.words.proofs.Bounds.{and-true}
-use Rattle.kinds.specs.Kinds.{kinds, known}
+use borrow.Author.Tests.{eq-eqb, le-leb}
+use Rattle.kinds.specs.Kinds.{known}
+use Rattle.blockfield.proofs.Laws.{known-below}
 use Rattle.kept.specs.Keeps.{Match, Labelled, field, labelBytes}
 use Rattle.kept.proofs.Lists.{match-length}
 use Rattle.digits.specs.Numbers.{decimal, signedDecimal}
@@ -67,8 +67,7 @@ unfolding saidIn belowOf aboveOf
 byte-said n h = count-said 0 255 n h (omega arith)
 
 pub known-small : (kind : ℕ) → known kind ≡ true → kind ≤ 255
-unfolding known kinds
-known-small kind e = let h = ltb-true kind 17 (and-true (leb 1 kind) (ltb kind 17) e .1) in omega arith
+known-small kind e = let h = known-below kind e in omega arith
 
 block-shaped : (kind : ℕ) (cells : List (List ℕ)) → known kind ≡ true → nth cells 0 ≡ decimal 0x10 → nth cells 1 ≡ decimal kind
     → shapeOf cells ≡ blockShape kind

@@ -1,14 +1,14 @@
 -- Document 01, "The blocks": what each kind makes of its inputs, its parameters and what it had, on plain values. A bit is true where
--- the paper says 1. `was` is the remembered bit, `q` the output of the last scan.
+-- the paper says 1. `was` is the remembered bit, `q` the output of the last scan. Kinds 17 and 18: document 02, No. 2.
 use Prim.Native.Nat.{ℕ, _+_, _-_, _*_, _/_, _%_, _^_, min}
 use mathlib.Core.Bool.{Bool, true, false, not, cond, _&&_, _||_, Bool·beq}
 use mathlib.Core.List.{List, [], _∷_}
-use lib.Dec.{ltb, eqb}
+use lib.Dec.{leb, ltb, eqb}
 use lib.ListN.{getD}
 use lib.IntN.{ℤ, pos, _+ℤ_, _-ℤ_, _*ℤ_}
 use lib.Signed.{ltZ, leZ, quotZ}
 use Rattle.words.specs.Signed.{wordOf}
-use Rattle.kinds.specs.Kinds.{parameter}
+use Rattle.kinds.specs.Kinds.{mostCount, parameter}
 use Rattle.kinds.specs.Time.{ticks}
 use Rattle.kinds.specs.declared.Ticks.{Ticks}
 use Rattle.rules.specs.declared.BlockWords.{BlockWords}
@@ -164,3 +164,53 @@ multiplexed en s1 s2 p = three (cond en (parameter p (2 * digit s1 + digit s2)) 
 -- 16 differential trigger: "as 13, Off = On + Δ": of A, B, On, Δ the parameters of 13
 abbrev pub withOff : List ℤ → List ℤ
 withOff p = parameter p 0 ∷ parameter p 1 ∷ parameter p 2 ∷ (parameter p 2 +ℤ parameter p 3) ∷ []
+
+-- ---- the counter
+
+-- "R sets the count to 0; otherwise a rising Cnt adds 1, or takes 1 with Dir 1, and stops at 0 and 999,999": on R, whether Cnt rises, Dir
+abbrev pub tally : Bool → Bool → Bool → ℕ → ℕ
+tally true rises down n = 0
+tally false false down n = n
+tally false true false n = min mostCount (n + 1)
+tally false true true n = n - 1
+
+-- "With On ≥ Off, Q is 1 from On up, 0 below Off, else held; with On < Off, Q is 1 for On ≤ count < Off."
+unfoldable pub countsOn : ℤ → ℤ → ℤ → Bool → Bool
+countsOn count on off q =
+    cond (leZ off on)
+    (cond (leZ on count) true (cond (ltZ count off) false q))
+    (leZ on count && ltZ count off)
+
+-- 17 up/down counter, on R, Cnt, Dir; the parameters are On, Off. Q by the count after the step; "Remembered: Cnt, under R too"
+unfoldable pub upDownCounter : Bool → Bool → Bool → Bool → Bool → ℕ → List ℤ → BlockWords
+upDownCounter r cnt down was q n p =
+    let next = tally r (cnt && not was) down n in
+    gives (countsOn (pos next) (parameter p 0) (parameter p 1) q) cnt next
+
+-- ---- the stairway switch: Ta, T and e as for the delays; `warning` is T!, `dark` is T!L
+
+-- "Trg, plus 2 while running"
+abbrev pub trgAndRunning : Bool → Bool → ℤ
+trgAndRunning trg running = pos (digit trg + 2 * digit running)
+
+-- its words: Q, Trg, whether it runs, Ta
+abbrev pub stands : Bool → Bool → Bool → ℕ → BlockWords
+stands q trg running n = three (wordOf q) (trgAndRunning trg running) (pos n)
+
+-- "from the fall on 0 while T − T! ≤ Ta < T − T! + T!L"
+abbrev pub isDark : Ticks → Ticks → Ticks → Ticks → Bool
+isDark ta t warning dark = leb (t .0 - warning .0) (ta .0) && ltb (ta .0) (t .0 - warning .0 + dark .0)
+
+-- running, with Trg 0: at T "it ends"; before it Q is 1, but for the dark time
+abbrev pub dims : Ticks → Ticks → Ticks → Ticks → BlockWords
+dims ta t warning dark =
+    cond (eqb (ta .0) (t .0)) (stands false false false 0) (stands (not (isDark ta t warning dark)) false true (ta .0))
+
+-- 18 stairway switch, on Trg, Trg of the last scan, whether it ran: "a rising Trg starts it, Ta is 0 while Trg is 1 and on the fall, then
+-- grows by e up to T, where, on the fall too, it ends. Not running, Q and Ta are 0. Running, Q is 1", but for the dark time
+unfoldable pub stairwaySwitch : Bool → Bool → Bool → Ticks → Ticks → Ticks → Ticks → Ticks → BlockWords
+stairwaySwitch true false ran ta t warning dark e = stands true true true 0
+stairwaySwitch true true ran ta t warning dark e = stands ran true ran 0
+stairwaySwitch false was false ta t warning dark e = stands false false false 0
+stairwaySwitch false true true ta t warning dark e = dims (ticks 0) t warning dark
+stairwaySwitch false false true ta t warning dark e = dims (grown ta t e) t warning dark

@@ -121,7 +121,7 @@ pub fn not_gate(bits: [bool; 4]) -> BlockWords
 // ---- the delays
 
 // The ticks run, e ticks later, and no more than those set.
-fn grown_to(ta: Ticks, t: Ticks, e: Ticks) -> Ticks
+pub fn grown_to(ta: Ticks, t: Ticks, e: Ticks) -> Ticks
     requires { ⌜ (ta .0 < 2 ^ 31) × (e .0 < 2 ^ 31) ⌝ }
     ensures { λ r. ⌜ r ≡ grown ta t e ⌝ }
 {

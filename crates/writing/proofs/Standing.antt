@@ -7,20 +7,21 @@ use mathlib.Core.Option.{Option, none, some}
 use Prim.Native.Nat.{ℕ, suc, _+_, _-_, _≤_, _<_, _^_}
 use native.Mathlib.Nat.{add-zero}
 use native.Mathlib.Omega.{arith}
-use lib.Dec.{eqb, ltb, leb}
+use lib.Dec.{eqb}
 use lib.ListN.{length, getD, drop, length-append, length-drop}
 use lib.Seq.{take-append-seam}
 use lib.IntN.{ℤ, pos, negsuc}
 use mir.Syntax.{w32}
 use mir.Val.{SFits, toZ, ofZ}
 use mir.Facts.{fits-ofZ, toZ-ofZ}
-use borrow.Author.Tests.{eqb-true, eqb-false, ltb-true}
+use borrow.Author.Tests.{eqb-true, eqb-false}
 use Rattle.words.specs.Bytes.{numberAt, bytesOf}
 use Rattle.words.proofs.Sides.{sides-fit}
-use Rattle.words.proofs.Bounds.{between-sides, and-true}
-use Rattle.kinds.specs.Kinds.{kinds, known}
+use Rattle.words.proofs.Bounds.{between-sides}
+use Rattle.kinds.specs.Table.{rows}
 use Rattle.kinds.proofs.Rows.{small-kind}
 use Rattle.refusals.specs.Limited.{ours}
+use Rattle.blockfield.proofs.Laws.{known-below}
 use Rattle.decoding.specs.Decoded.{Circuit}
 use Rattle.circuit.specs.Circuit.{verdict, accepted}
 use Rattle.kept.specs.Keeps.{All, Match, Bytes, Labelled, joined, field, labelBytes}
@@ -218,10 +219,6 @@ tail-of s at true (some x) r l g d =
 
 -- ---- the shape
 
-known-below : (kind : ℕ) → known kind ≡ true → kind < 17
-unfolding known kinds
-known-below kind e = ltb-true kind 17 (and-true (leb 1 kind) (ltb kind 17) e .1)
-
 -- the first number is the kind
 first-read : (s : List ℕ) (at : ℕ) (ws : List ℕ) (vs : List ℤ) (r : List ℕ) (kind : ℕ) → Match FitsIn (1 ∷ ws) vs → getD vs 0 (pos 0) ≡ pos kind
     → drop at s ≡ packedAll (1 ∷ ws) vs ++ r → getD s at 0 ≡ kind
@@ -283,11 +280,11 @@ module _ (s : List ℕ) (at : ℕ) (e : Entry) (fine : Fine e) (r : List ℕ)
           let tag : getD s at 0 ≡ 0x30 = tag-here ∙ ap (λ (x : Shape). x .tag) sh in
           shape-output s at (λ q. omega arith) ∙ sym sh
 
-  kind-known : getD s at 0 ≡ 0x10 → getD s (at + 3) 0 < 17
+  kind-known : getD s at 0 ≡ 0x10 → getD s (at + 3) 0 < rows
   unfolding blockShape outputShape
   kind-known q = by (fine .shaped)
     where
-      by : Shaped e → getD s (at + 3) 0 < 17
+      by : Shaped e → getD s (at + 3) 0 < rows
       by (block kind k sh first) = rw (kind-here kind first) (known-below kind k)
       by (output sh) =
           let tag : getD s at 0 ≡ 0x30 = tag-here ∙ ap (λ (x : Shape). x .tag) sh in

@@ -10,6 +10,7 @@ use lib.IntN.{ℤ}
 use mir.Syntax.{w32}
 use mir.Val.{toZ}
 use Rattle.words.specs.Bytes.{numberAt}
+use Rattle.kinds.specs.Table.{rows}
 use Rattle.digits.specs.Numbers.{decimal, signedDecimal}
 use Rattle.cells.specs.Cells.{writeCell}
 use Rattle.rows.specs.declared.Shape.{Shape}
@@ -98,7 +99,7 @@ rowsAt s (suc n) at = rowAt s at ++ rowsAt s n (nextAt s at)
 
 -- an entry stands at a place whole, and a byte stands behind it
 pub record Stands (s : List ℕ) (at : ℕ) : Type 0 where
-  pub kind : getD s at 0 ≡ 0x10 → getD s (at + 3) 0 < 17
+  pub kind : getD s at 0 ≡ 0x10 → getD s (at + 3) 0 < rows
   pub field : fieldEnd (shapeAt s at) at + 3 ≤ length s
   pub next : nextAt s at + 3 ≤ length s
 

@@ -4,6 +4,7 @@ use Prim.Native.Nat.{ℕ}
 use Rattle.kinds.specs.Kinds.{kindOf, kinds}
 use Rattle.blocks.specs.Blocks.{rules, workedOut}
 use Rattle.blocks.proofs.Ready.{scaling, indexing, no-rule}
+use native.Mathlib.Omega.{arith}
 use borrow.Author.Needs.{needs}
 use Rattle.blocks.proofs.worked_out.Statement.{statement}
 use Rattle.blocks.proofs.worked_out.Tie as tie
@@ -65,6 +66,14 @@ choice-block-requires c κs = search needs
 trigger-block-requires-2 : tie.Need-trigger-block-requires-2
 unfolding kindOf kinds
 trigger-block-requires-2 c κs = (c .before .pre .1, scaling (c .before .pre .0) (ap (λ (n : ℕ). kindOf n .parameters) (c .match .keys16)))
+
+count-block-requires : tie.Need-count-block-requires
+count-block-requires c κs = search needs
+
+stairs-block-requires : tie.Need-stairs-block-requires
+stairs-block-requires c κs =
+    let f = c .before .pre .0 in
+    (f .time-is, f .warning-is, omega (arith, f .warning-is, f .dark-is), c .before .pre .2)
 
 nothing-requires : tie.Need-nothing-requires
 nothing-requires c κs = search needs
@@ -134,7 +143,15 @@ unfolding workedOut rules
 returns-16 c = rw (c .before .match .keys16) (c .trigger-block2 .ensures)
 
 returns-17 : tie.Need-returns-17
-returns-17 c = rw (no-rule (c .before .before .args .kind) (c .before .match .rest)) (c .nothing .ensures)
+unfolding workedOut rules
+returns-17 c = rw (c .before .match .keys17) (c .count-block .ensures)
+
+returns-18 : tie.Need-returns-18
+unfolding workedOut rules
+returns-18 c = rw (c .before .match .keys18) (c .stairs-block .ensures)
+
+returns-19 : tie.Need-returns-19
+returns-19 c = rw (no-rule (c .before .before .args .kind) (c .before .match .rest)) (c .nothing .ensures)
 
 pub worked-out-spec : {M : Type 1} → statement M
 worked-out-spec =
@@ -158,6 +175,8 @@ worked-out-spec =
     compare-block-requires
     choice-block-requires
     trigger-block-requires-2
+    count-block-requires
+    stairs-block-requires
     nothing-requires
     returns
     returns-2
@@ -175,4 +194,6 @@ worked-out-spec =
     returns-14
     returns-15
     returns-16
-    returns-17)
+    returns-17
+    returns-18
+    returns-19)

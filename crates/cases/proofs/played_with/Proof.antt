@@ -18,11 +18,11 @@ add-room c = search needs
 array-borrow-prefix-room : tie.Need-array-borrow-prefix-room
 array-borrow-prefix-room c = search needs
 
-slice-aggregate-played : tie.Need-slice-aggregate-played
-slice-aggregate-played c = sym (length-take-le _ _ (omega (arith, c .before .longest .ensures, c .before .before .if1 .taken)))
+slice-aggregate-played-twice : tie.Need-slice-aggregate-played-twice
+slice-aggregate-played-twice c = sym (length-take-le _ _ (omega (arith, c .before .longest .ensures, c .before .before .if1 .taken)))
 
-played-requires : tie.Need-played-requires
-played-requires c κs = search needs
+played-twice-requires : tie.Need-played-twice-requires
+played-twice-requires c κs = search needs
 
 returns : tie.Need-returns
 returns c = search needs
@@ -38,7 +38,7 @@ played-with-spec =
     mul-room
     add-room
     array-borrow-prefix-room
-    slice-aggregate-played
-    played-requires
+    slice-aggregate-played-twice
+    played-twice-requires
     returns
     returns-2)

@@ -1,0 +1,1 @@
+// What an up/down counter has counted: definitions and theorems alone, no functions.
