@@ -30,26 +30,31 @@ static unsigned lowest(set s) {
 #define THRESHOLD {-20000, 20000}
 #define VALUE {-32768, 32767}
 
-#define SETTING {0, 2}, {0, 9999}
+#define BASE {0, 2}
+#define TIME {0, 9999}
 #define THRESHOLDS GAIN, OFFSET, THRESHOLD, THRESHOLD
+#define COUNT {0, MOST_COUNT}
 
 const kind_rule oracle_kind_rules[KINDS + 1] = {
     [AND] = {.digital = 4},
-    [AND_EDGE] = {.digital = 4, .remembers = true},
+    [AND_EDGE] = {.digital = 4, .remembered = 1},
     [NAND] = {.digital = 4},
-    [NAND_EDGE] = {.digital = 4, .remembers = true},
+    [NAND_EDGE] = {.digital = 4, .remembered = 1},
     [OR] = {.digital = 4},
     [NOR] = {.digital = 4},
     [XOR] = {.digital = 2},
     [NOT] = {.digital = 1},
-    [ON_DELAY] = {.digital = 1, .parameters = 2, .ranges = {SETTING}, .retentive = true, .remembers = true},
-    [OFF_DELAY] = {.digital = 2, .parameters = 2, .ranges = {SETTING}, .retentive = true, .remembers = true},
+    [ON_DELAY] = {.digital = 1, .parameters = 2, .ranges = {BASE, TIME}, .times = 1, .retentive = true, .remembered = 1},
+    [OFF_DELAY] = {.digital = 2, .parameters = 2, .ranges = {BASE, TIME}, .times = 1, .retentive = true, .remembered = 1},
     [LATCHING_RELAY] = {.digital = 2, .retentive = true},
-    [SHIFT_REGISTER] = {.digital = 3, .parameters = 2, .ranges = {{1, 4}, {1, 8}}, .retentive = true, .remembers = true},
+    [SHIFT_REGISTER] = {.digital = 3, .parameters = 2, .ranges = {{1, 4}, {1, 8}}, .retentive = true, .remembered = 1},
     [THRESHOLD_TRIGGER] = {.analog = 1, .parameters = 4, .ranges = {THRESHOLDS}},
     [COMPARATOR] = {.analog = 2, .parameters = 4, .ranges = {THRESHOLDS}},
     [MULTIPLEXER] = {.digital = 3, .parameters = 4, .ranges = {VALUE, VALUE, VALUE, VALUE}},
     [DIFFERENTIAL_TRIGGER] = {.analog = 1, .parameters = 4, .ranges = {THRESHOLDS}},
+    [UP_DOWN_COUNTER] = {.digital = 3, .parameters = 2, .ranges = {COUNT, COUNT}, .retentive = true, .remembered = 1},
+    [STAIRWAY_SWITCH] =
+        {.digital = 1, .parameters = 4, .ranges = {BASE, TIME, TIME, TIME}, .times = 3, .retentive = true, .remembered = 3},
 };
 
 static bool is_known_kind(unsigned kind) { return 1 <= kind && kind <= KINDS; }
@@ -146,13 +151,19 @@ static set input_numbers(const known_circuit *so_far, const kind_rule *rule, con
     return held;
 }
 
+/* The times behind the base: in bases 1 and 2 none is above 5999, and none is above the one before it. */
+static bool times_fit(const kind_rule *rule, const block *b) {
+    for (unsigned i = 1; i <= rule->times; i++)
+        if ((b->parameters[0] != 0 && b->parameters[i] > 5999) || (i > 1 && b->parameters[i] > b->parameters[i - 1]))
+            return false;
+    return true;
+}
+
 static bool parameters_fit(const kind_rule *rule, const block *b) {
     for (unsigned i = 0; i < rule->parameters; i++)
         if (b->parameters[i] < rule->ranges[i].least || b->parameters[i] > rule->ranges[i].greatest)
             return false;
-    if (b->kind == ON_DELAY || b->kind == OFF_DELAY)
-        return b->parameters[0] == 0 || b->parameters[1] <= 5999;
-    return true;
+    return times_fit(rule, b);
 }
 
 static set block_numbers(const known_circuit *so_far, const field *f, block *b) {

@@ -39,8 +39,12 @@ enum {
     COMPARATOR,
     MULTIPLEXER,
     DIFFERENTIAL_TRIGGER,
-    KINDS = 16
+    UP_DOWN_COUNTER,
+    STAIRWAY_SWITCH,
+    KINDS = 18
 };
+
+enum { MOST_COUNT = 999999 }; /* of an up/down counter: its count, On and Off */
 
 typedef struct {
     int32_t least, greatest;
@@ -49,9 +53,10 @@ typedef struct {
 typedef struct {
     unsigned digital, analog;      /* inputs of each sort; no kind has both */
     unsigned parameters;           /* how many */
-    range ranges[MOST_PARAMETERS]; /* of each; T may go to 9999 in base 0 only */
+    range ranges[MOST_PARAMETERS]; /* of each; a time may go to 9999 in base 0 only */
+    unsigned times;                /* so many parameters behind the first, their base, are times; none is above the one before it */
     bool retentive;                /* option bit 0 is allowed */
-    bool remembers;                /* the second word of the block is in use */
+    int32_t remembered;            /* the greatest of the block's second word; 0 where it has no use */
 } kind_rule;
 
 extern const kind_rule oracle_kind_rules[KINDS + 1];

@@ -25,7 +25,7 @@ enum { OUTPUT, REMEMBERED, NUMBER, WORDS_OF_A_BLOCK };
 /* Where the words of this block begin, from 1. */
 static inline size_t block_words(unsigned number) { return FIRST_BLOCK + WORDS_OF_A_BLOCK * ((size_t)number - 1); }
 
-/* T of a delay, in ticks. */
+/* T of a kind that has times, in ticks. */
 int32_t oracle_ticks(const uint8_t *content);
 
 /* What a connector shows that is not unused. */

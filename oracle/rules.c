@@ -38,20 +38,21 @@ static void resolve(const uint8_t *content, const int32_t *record, int32_t *in) 
     }
 }
 
-/* ---- delays */
+/* ---- times */
 
-/* T in ticks: the parameters are base and setting. */
-static int32_t ticks(const int32_t *p) {
+static int32_t ticks(int32_t base, int32_t setting) {
     static const int32_t ticks_of_one[3] = {1, 100, 6000};
-    return ticks_of_one[p[0]] * p[1];
+    return ticks_of_one[base] * setting;
 }
 
 int32_t oracle_ticks(const uint8_t *content) {
     const kind_rule *rule = &oracle_kind_rules[content[0]];
-    return ticks((const int32_t[]){parameter_at(rule, content, 0), parameter_at(rule, content, 1)});
+    return ticks(parameter_at(rule, content, 0), parameter_at(rule, content, 1));
 }
 
 static int32_t least(int32_t a, int32_t b) { return a < b ? a : b; }
+
+/* ---- delays */
 
 static void on_delay(int32_t *own, int32_t trg, int32_t t, int32_t e) {
     const bool stays = trg && own[REMEMBERED];
@@ -78,6 +79,22 @@ static void off_delay(int32_t *own, int32_t trg, int32_t r, int32_t t, int32_t e
     }
 }
 
+/* ---- the stairway switch */
+
+/* T, T! and T!L in ticks; in the remembered word a running switch has 2 beside Trg. */
+static void stairway_switch(int32_t *own, int32_t trg, int32_t t, int32_t warning, int32_t dark, int32_t e) {
+    const bool trg_before = own[REMEMBERED] % 2 == 1, rises = trg && !trg_before, falls = !trg && trg_before;
+    bool running = own[REMEMBERED] >= 2 || rises;
+    int32_t ta = trg || falls || !running ? 0 : least(t, own[NUMBER] + e);
+    if (!trg && ta == t) {
+        running = false;
+        ta = 0;
+    }
+    own[OUTPUT] = running && (trg || ta < t - warning || ta >= t - warning + dark);
+    own[REMEMBERED] = trg + (running ? 2 : 0);
+    own[NUMBER] = ta;
+}
+
 /* ---- the shift register */
 
 static void shift_register(int32_t *own, int32_t in, int32_t trg, int32_t dir, int32_t bit) {
@@ -95,6 +112,26 @@ static int32_t triggered(int32_t value, int32_t on, int32_t off, int32_t before)
     if (on < off)
         return on <= value && value < off;
     return value > on ? 1 : value <= off ? 0 : before;
+}
+
+/* ---- the up/down counter */
+
+static int32_t counted(int32_t count, int32_t on, int32_t off, int32_t before) {
+    if (on < off)
+        return on <= count && count < off;
+    return count >= on ? 1 : count < off ? 0 : before;
+}
+
+static void up_down_counter(int32_t *own, int32_t r, int32_t cnt, int32_t dir, int32_t on, int32_t off) {
+    const bool rises = cnt && !own[REMEMBERED];
+    if (r)
+        own[NUMBER] = 0;
+    else if (rises && dir)
+        own[NUMBER] -= own[NUMBER] > 0;
+    else if (rises)
+        own[NUMBER] += own[NUMBER] < MOST_COUNT;
+    own[OUTPUT] = counted(own[NUMBER], on, off, own[OUTPUT]);
+    own[REMEMBERED] = cnt;
 }
 
 /* ---- all kinds */
@@ -131,24 +168,9 @@ static void basic(unsigned kind, const int32_t *in, int32_t *own) {
     }
 }
 
-static void special(const uint8_t *content, const int32_t *in, int32_t e, int32_t *own) {
-    const kind_rule *rule = &oracle_kind_rules[content[0]];
-    int32_t p[MOST_PARAMETERS];
-    for (unsigned i = 0; i < rule->parameters; i++)
-        p[i] = parameter_at(rule, content, i);
-    switch (content[0]) {
-    case ON_DELAY:
-        on_delay(own, in[0], ticks(p), e);
-        break;
-    case OFF_DELAY:
-        off_delay(own, in[0], in[1], ticks(p), e);
-        break;
-    case LATCHING_RELAY:
-        own[OUTPUT] = in[1] ? 0 : in[0] ? 1 : own[OUTPUT];
-        break;
-    case SHIFT_REGISTER:
-        shift_register(own, in[0], in[1], in[2], p[1]);
-        break;
+/* The kinds on analog values. */
+static void analog(unsigned kind, const int32_t *in, const int32_t *p, int32_t *own) {
+    switch (kind) {
     case THRESHOLD_TRIGGER:
         own[OUTPUT] = triggered(actual(in[0], p[0], p[1]), p[2], p[3], own[OUTPUT]);
         break;
@@ -164,11 +186,41 @@ static void special(const uint8_t *content, const int32_t *in, int32_t e, int32_
     }
 }
 
+/* The kinds that may be retentive. */
+static void retentive(unsigned kind, const int32_t *in, const int32_t *p, int32_t e, int32_t *own) {
+    switch (kind) {
+    case ON_DELAY:
+        on_delay(own, in[0], ticks(p[0], p[1]), e);
+        break;
+    case OFF_DELAY:
+        off_delay(own, in[0], in[1], ticks(p[0], p[1]), e);
+        break;
+    case LATCHING_RELAY:
+        own[OUTPUT] = in[1] ? 0 : in[0] ? 1 : own[OUTPUT];
+        break;
+    case SHIFT_REGISTER:
+        shift_register(own, in[0], in[1], in[2], p[1]);
+        break;
+    case UP_DOWN_COUNTER:
+        up_down_counter(own, in[0], in[1], in[2], p[0], p[1]);
+        break;
+    case STAIRWAY_SWITCH:
+        stairway_switch(own, in[0], ticks(p[0], p[1]), ticks(p[0], p[2]), ticks(p[0], p[3]), e);
+        break;
+    }
+}
+
 void oracle_work_out(const uint8_t *content, const int32_t *record, int32_t *own) {
-    int32_t in[MOST_INPUTS] = {0, 0, 0, 0};
+    const unsigned kind = content[0];
+    const kind_rule *rule = &oracle_kind_rules[kind];
+    int32_t in[MOST_INPUTS] = {0, 0, 0, 0}, p[MOST_PARAMETERS] = {0, 0, 0, 0};
     resolve(content, record, in);
-    if (content[0] <= NOT)
-        basic(content[0], in, own);
+    for (unsigned i = 0; i < rule->parameters; i++)
+        p[i] = parameter_at(rule, content, i);
+    if (kind <= NOT)
+        basic(kind, in, own);
+    else if (rule->retentive)
+        retentive(kind, in, p, record[ELAPSED], own);
     else
-        special(content, in, record[ELAPSED], own);
+        analog(kind, in, p, own);
 }

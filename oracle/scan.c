@@ -17,9 +17,12 @@ static int32_t greatest_number(const uint8_t *content) {
     switch (content[0]) {
     case ON_DELAY:
     case OFF_DELAY:
+    case STAIRWAY_SWITCH:
         return oracle_ticks(content);
     case SHIFT_REGISTER:
         return 255;
+    case UP_DOWN_COUNTER:
+        return MOST_COUNT;
     default:
         return 0;
     }
@@ -29,7 +32,7 @@ static bool sound_block(const uint8_t *content, const int32_t *own) {
     const unsigned kind = content[0];
     const bool analog = kind == MULTIPLEXER;
     return within(own + OUTPUT, 1, analog ? -32768 : 0, analog ? 32767 : 1) &&
-           within(own + REMEMBERED, 1, 0, oracle_kind_rules[kind].remembers) &&
+           within(own + REMEMBERED, 1, 0, oracle_kind_rules[kind].remembered) &&
            within(own + NUMBER, 1, 0, greatest_number(content));
 }
 

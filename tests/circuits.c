@@ -38,6 +38,8 @@ int32_t between(chance *with, int32_t least, int32_t greatest) {
     }
 }
 
+int32_t held_to(int32_t value, int32_t least, int32_t greatest) { return value < least ? least : value > greatest ? greatest : value; }
+
 int32_t usual_value(chance *with, int32_t least, int32_t greatest) {
     static const int32_t usual[] = {0,  1,  3,   10,   99,   100,   101,   333,  500,
                                     -1, -3, -10, -100, -333, -1000, 32767, 1000, -32768};
@@ -66,9 +68,13 @@ const shape shapes[KINDS + 1] = {
     [14] = {"aa", 4, {-1000, -10000, -20000, -20000}, {1000, 10000, 20000, 20000}, false},
     [15] = {"ddd", 4, {-32768, -32768, -32768, -32768}, {32767, 32767, 32767, 32767}, false},
     [16] = {"a", 4, {-1000, -10000, -20000, -20000}, {1000, 10000, 20000, 20000}, false},
+    [17] = {"ddd", 2, {0, 0}, {MOST_COUNT, MOST_COUNT}, true},
+    [18] = {"d", 4, {0, 0, 0, 0}, {2, 9999, 9999, 9999}, true},
 };
 
-bool is_delay(unsigned kind) { return kind == 9 || kind == 10; }
+unsigned times_of(unsigned kind) { return kind == 9 || kind == 10 ? 1 : kind == STAIRWAY ? 3 : 0; }
+
+int32_t greatest_time(int32_t base) { return base == 0 ? 9999 : 5999; }
 
 unsigned inputs_of(unsigned kind) { return (unsigned)strlen(shapes[kind].inputs); }
 
@@ -163,9 +169,9 @@ int32_t parameter_of(const circuit *c, unsigned number, unsigned i) {
     return (int32_t)((uint32_t)at[0] << 24 | (uint32_t)at[1] << 16 | (uint32_t)at[2] << 8 | at[3]);
 }
 
-int32_t ticks_of(const circuit *c, unsigned number) {
+int32_t ticks_of(const circuit *c, unsigned number, unsigned i) {
     static const int32_t factor[3] = {1, 100, 6000};
-    return factor[parameter_of(c, number, 0)] * parameter_of(c, number, 1);
+    return factor[parameter_of(c, number, 0)] * parameter_of(c, number, i);
 }
 
 int32_t actual_of(int32_t input, int32_t a, int32_t b) { return input * a / 100 + b; }
@@ -208,16 +214,17 @@ static void put_random_connector(const circuit *c, chance *with, uint8_t *at, bo
     put_connector(at, digital && class != 0 && once_in(with, 2) ? class + 0x80 : class, number);
 }
 
-static void random_parameters(chance *with, unsigned kind, int32_t *values) {
+/* Times behind their base, the first up to this one. */
+static void random_times(chance *with, unsigned kind, int32_t *values, int32_t greatest) {
+    for (unsigned i = 1; i <= times_of(kind); i++)
+        values[i] = between(with, 0, i == 1 ? greatest : values[i - 1]);
+}
+
+void random_parameters(chance *with, unsigned kind, int32_t *values) {
     const shape *s = &shapes[kind];
     for (unsigned i = 0; i < s->parameters; i++)
         values[i] = between(with, s->least[i], s->greatest[i]);
-    if (is_delay(kind) && values[0] != 0)
-        values[1] = between(with, 0, 5999);
-}
-
-static int32_t held_to(int32_t value, int32_t least, int32_t greatest) {
-    return value < least ? least : value > greatest ? greatest : value;
+    random_times(with, kind, values, greatest_time(values[0]));
 }
 
 /* On and Off, or Δ, near the actual values of usual inputs. */
@@ -239,12 +246,21 @@ static void lively_thresholds(chance *with, unsigned kind, int32_t *values) {
     values[3] = kind == 16 ? held_to(off - met[0], -20000, 20000) : off;
 }
 
+/* On and Off near each other, near what a few scans count up to from 0 or near the greatest count. */
+static void lively_counts(chance *with, int32_t *values) {
+    const int32_t count = once_in(with, 3) ? MOST_COUNT - between(with, 0, 5) : between(with, 0, 5);
+    for (unsigned i = 0; i < 2; i++)
+        values[i] = held_to(count + between(with, -2, 2), 0, MOST_COUNT);
+}
+
 static void lively_parameters(chance *with, unsigned kind, int32_t *values) {
     random_parameters(with, kind, values);
-    if (is_delay(kind) && !once_in(with, 8)) {
+    if (times_of(kind) > 0 && !once_in(with, 8)) {
         values[0] = (int32_t)(once_in(with, 3) ? below(with, 3) : 0);
-        values[1] = between(with, 0, values[0] == 0 ? 12 : 3);
+        random_times(with, kind, values, values[0] == 0 ? 12 : 3);
     }
+    if (kind == COUNTER && !once_in(with, 8))
+        lively_counts(with, values);
     if (kind == 15)
         for (unsigned i = 0; i < 4; i++)
             values[i] = usual_value(with, -32768, 32767);
@@ -252,11 +268,21 @@ static void lively_parameters(chance *with, unsigned kind, int32_t *values) {
         lively_thresholds(with, kind, values);
 }
 
+/* A counter that is not reset, a switch that one of the first inputs triggers. */
+static void put_lively_connector(chance *with, unsigned kind, uint8_t *first) {
+    if (kind == COUNTER)
+        put_connector(first, 0, 0);
+    if (kind == STAIRWAY)
+        put_connector(first, once_in(with, 2) ? 1 : 0x81, 1 + below(with, 4));
+}
+
 static void add_random_block(circuit *c, chance *with, unsigned kind, bool lively) {
     uint8_t connectors[4][3];
     int32_t values[4] = {0, 0, 0, 0};
     for (unsigned i = 0; i < inputs_of(kind); i++)
         put_random_connector(c, with, connectors[i], shapes[kind].inputs[i] == 'd', true, lively);
+    if (lively && !once_in(with, 3))
+        put_lively_connector(with, kind, connectors[0]);
     uint8_t *at = add_block(c, kind, shapes[kind].retentive ? below(with, 2) : 0);
     memcpy(at + input_at(0), connectors, 3 * inputs_of(kind));
     if (lively)

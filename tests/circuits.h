@@ -7,7 +7,7 @@
 #include <stdint.h>
 
 enum {
-    KINDS = 16,
+    KINDS = 18,
     MOST_BLOCKS = 400,
     DESTINATIONS = 20 + 64 + 8 + 64,
     /* the longest circuit that is accepted: multiplexers with full labels, a row for each destination */
@@ -27,9 +27,10 @@ chance chance_of(uint64_t seed);
 
 /* What a comparison is told: the seed, then how much to compare. Words that are not there leave what is. */
 void seed_and_count(int words, char **word, uint64_t *seed, uint64_t *count);
-uint32_t below(chance *with, uint32_t bound);                   /* 0 to bound - 1 */
-bool once_in(chance *with, uint32_t times);                     /* true once in so many times */
-int32_t between(chance *with, int32_t least, int32_t greatest); /* both ends are often met */
+uint32_t below(chance *with, uint32_t bound);                    /* 0 to bound - 1 */
+bool once_in(chance *with, uint32_t times);                      /* true once in so many times */
+int32_t between(chance *with, int32_t least, int32_t greatest);  /* both ends are often met */
+int32_t held_to(int32_t value, int32_t least, int32_t greatest); /* the nearest in this range */
 
 /* An analog value in this range, most often one of a few: so thresholds and what they judge meet. */
 int32_t usual_value(chance *with, int32_t least, int32_t greatest);
@@ -39,13 +40,16 @@ int32_t usual_value(chance *with, int32_t least, int32_t greatest);
 typedef struct {
     const char *inputs; /* a letter each: d digital, a analog */
     unsigned parameters;
-    int32_t least[4], greatest[4]; /* T: the greatest of any base */
+    int32_t least[4], greatest[4]; /* of a time: the greatest of any base */
     bool retentive;
 } shape;
 
 extern const shape shapes[KINDS + 1];
 
-bool is_delay(unsigned kind);
+enum { COUNTER = 17, STAIRWAY = 18, MOST_COUNT = 999999 };
+
+unsigned times_of(unsigned kind);    /* how many parameters behind the base are times, none above the one before it */
+int32_t greatest_time(int32_t base); /* that a parameter may say */
 unsigned inputs_of(unsigned kind);
 size_t input_at(unsigned i);                    /* where input i stands, from the block's tag on */
 size_t parameter_at(unsigned kind, unsigned i); /* where parameter i stands, from the block's tag on */
@@ -78,8 +82,11 @@ void add_given_block(circuit *c, unsigned kind, unsigned options, const unsigned
 void add_plain_block(circuit *c, unsigned kind);
 
 int32_t parameter_of(const circuit *c, unsigned number, unsigned i); /* parameter i of this block */
-int32_t ticks_of(const circuit *c, unsigned number);                 /* T of this delay */
+int32_t ticks_of(const circuit *c, unsigned number, unsigned i);     /* likewise, a time, in ticks; T is parameter 1 */
 int32_t actual_of(int32_t input, int32_t a, int32_t b);              /* the actual value */
+
+/* Parameters that are allowed; the ends of each range are often met. */
+void random_parameters(chance *with, unsigned kind, int32_t *values);
 
 /* The class and number of destination k, from 0: Q, M, AQ, AM in turn. */
 void destination_of(unsigned k, unsigned *class, unsigned *number);
@@ -87,7 +94,7 @@ void destination_of(unsigned k, unsigned *class, unsigned *number);
 /* An accepted circuit with n blocks and so many rows, all else by chance; the last block has this kind, if it is not 0. */
 void random_circuit(circuit *c, chance *with, unsigned n, unsigned rows, unsigned last_kind);
 
-/* Likewise, with few inputs and flags, short settings, and thresholds near what they judge: in its scans much happens. */
+/* Likewise, with few inputs and flags, short settings, and thresholds near what they judge or count: in its scans much happens. */
 void lively_circuit(circuit *c, chance *with, unsigned n, unsigned rows, unsigned last_kind);
 
 /* An accepted circuit with n blocks, all kinds in turn, labels of 16 bytes, and a row for each destination if there are blocks.

@@ -2,6 +2,7 @@
 
    compare [SEED] [COUNT]      at least COUNT inputs, 2,000,000 if none is named
    compare --self-test NAME    one of the two is made wrong in the way named; this must be found
+   compare --self-test-names   the names of these ways
 
    A slice stands in memory that cannot be written, its end or its beginning at a page that cannot be read. */
 #define _POSIX_C_SOURCE 200809L
@@ -10,6 +11,7 @@
 #include "guarded.h"
 #include "oracle.h"
 #include "sides.h"
+#include "wrong_kinds.h"
 
 #include <stdio.h>
 #include <stdlib.h>
@@ -235,27 +237,42 @@ static void replace_connector(size_t at, unsigned own) {
         }
 }
 
+static void replace_four(size_t at, int32_t value) {
+    uint8_t bytes[4];
+    put_four(bytes, value);
+    splice(at, at + 4, bytes, 4);
+}
+
 static void replace_parameter(size_t at, int32_t least, int32_t greatest) {
     const int32_t values[] = {least, least - 1, least + 1, greatest,  greatest + 1, greatest - 1, 0,
                               -1,    257,       5999,      INT32_MIN, 6000,         INT32_MAX};
-    for (size_t i = 0; i < sizeof values / sizeof *values; i++) {
-        uint8_t bytes[4];
-        put_four(bytes, values[i]);
-        splice(at, at + 4, bytes, 4);
-    }
+    for (size_t i = 0; i < sizeof values / sizeof *values; i++)
+        replace_four(at, values[i]);
+}
+
+/* Each time replaced by each, by one less and by one more. */
+static void replace_times(size_t from, unsigned own) {
+    const unsigned kind = made.kinds[own];
+    for (unsigned i = 1; i <= times_of(kind); i++)
+        for (unsigned other = 1; other <= times_of(kind); other++)
+            for (int32_t beside = -1; beside <= 1; beside++)
+                replace_four(from + parameter_at(kind, i), parameter_of(&made, own, other) + beside);
 }
 
 static void change_block(size_t from, unsigned own) {
-    static const uint8_t options[] = {0, 1, 2, 3, 0x80, 0x81, 0xFF};
+    static const uint8_t options[] = {0, 1, 2, 3, 0x80, 0x81, 0xFF}, unknown[] = {0, 20, 21, 32, 0x81, 0xFF};
     const unsigned kind = made.bytes[from + 3];
-    for (unsigned other = 0; other <= 18; other++)
+    for (unsigned other = 1; other <= KINDS; other++)
         replace_byte(from + 3, other);
+    for (size_t i = 0; i < sizeof unknown; i++)
+        replace_byte(from + 3, unknown[i]);
     for (size_t i = 0; i < sizeof options; i++)
         replace_byte(from + 4, options[i]);
     for (unsigned i = 0; i < inputs_of(kind); i++)
         replace_connector(from + input_at(i), own);
     for (unsigned i = 0; i < shapes[kind].parameters; i++)
         replace_parameter(from + parameter_at(kind, i), shapes[kind].least[i], shapes[kind].greatest[i]);
+    replace_times(from, own);
 }
 
 static void change_row(size_t from) {
@@ -293,7 +310,7 @@ static void change_every_field(void) {
 static void change_more_than_once(chance *with) {
     memcpy(changed, made.bytes, made.length);
     for (unsigned k = 2 + below(with, 3); k > 0; k--)
-        changed[below(with, (uint32_t)made.length)] = (uint8_t)(once_in(with, 3) ? below(with, 256) : below(with, 18));
+        changed[below(with, (uint32_t)made.length)] = (uint8_t)(once_in(with, 3) ? below(with, 256) : below(with, KINDS + 1));
     compare(TWICE_CHANGED, "changed more than once", changed, made.length);
 }
 
@@ -319,9 +336,27 @@ static uint8_t *random_connector(chance *with, uint8_t *at) {
     return at + 3;
 }
 
+/* Any kind, or one that there is not. */
+static unsigned random_kind(chance *with) {
+    const unsigned kind = below(with, KINDS + 2);
+    return kind <= KINDS ? kind : 20 + below(with, 256 - 20);
+}
+
+/* Parameters that most often fit; else each in the widest range, or one beside. */
+static void odd_parameters(chance *with, unsigned kind, int32_t *values) {
+    random_parameters(with, kind, values);
+    for (unsigned i = 0; i < shapes[kind].parameters; i++) {
+        if (once_in(with, 8))
+            values[i] = between(with, shapes[kind].least[i], shapes[kind].greatest[i]);
+        if (once_in(with, 16))
+            values[i] += once_in(with, 2) ? 1 : -1;
+    }
+}
+
 static uint8_t *random_block(chance *with, uint8_t *at) {
-    const unsigned kind = once_in(with, 24) ? below(with, 20) : once_in(with, 4) ? 12 : 7 + below(with, 10);
+    const unsigned kind = once_in(with, 24) ? random_kind(with) : once_in(with, 4) ? 12 : 7 + below(with, KINDS - 6);
     const unsigned known = 1 <= kind && kind <= KINDS ? kind : 8;
+    int32_t values[4] = {0, 0, 0, 0};
     uint8_t *begin = at;
     at[3] = (uint8_t)kind;
     at[4] = (uint8_t)(once_in(with, 8) ? below(with, 3) : 0);
@@ -332,8 +367,9 @@ static uint8_t *random_block(chance *with, uint8_t *at) {
         while (!once_in(with, 8) && (shapes[known].inputs[i] == 'a') != (at[0] >= 7 && at[0] <= 9));
         at += 3;
     }
+    odd_parameters(with, known, values);
     for (unsigned i = 0; i < shapes[known].parameters; i++, at += 4)
-        put_four(at, between(with, shapes[known].least[i], shapes[known].greatest[i]) + (once_in(with, 16) ? 1 : 0));
+        put_four(at, values[i]);
     put_two(begin + 1, (unsigned)(at - begin) - 3 + (once_in(with, 24) ? 1 : 0));
     return at;
 }
@@ -454,6 +490,10 @@ static serifdove_answer wrong_rows(const uint8_t *circuit, size_t length) {
     return answer;
 }
 
+static serifdove_answer times_in_any_order(const uint8_t *circuit, size_t length) {
+    return oracle_check(times_in_order(circuit, length), length);
+}
+
 static serifdove_answer reads_behind(const uint8_t *circuit, size_t length) {
     const volatile uint8_t *at = circuit;
     (void)at[length];
@@ -473,27 +513,41 @@ static serifdove_answer writes(const uint8_t *circuit, size_t length) {
     return oracle_check(circuit, length);
 }
 
+static const struct {
+    const char *name;
+    check_function **which, *wrong;
+} all_wrong[] = {
+    {"wrong_place", &reference, wrong_place},
+    {"wrong_rows", &reference, wrong_rows},
+    {"times_in_any_order", &proved, times_in_any_order},
+    {"reads_behind", &proved, reads_behind},
+    {"reads_before", &proved, reads_before},
+    {"writes", &proved, writes},
+};
+
 static bool make_wrong(const char *name) {
-    static const struct {
-        const char *name;
-        check_function **which, *wrong;
-    } all[] = {
-        {"wrong_place", &reference, wrong_place}, {"wrong_rows", &reference, wrong_rows}, {"reads_behind", &proved, reads_behind},
-        {"reads_before", &proved, reads_before},  {"writes", &proved, writes},
-    };
-    for (size_t i = 0; i < sizeof all / sizeof *all; i++)
-        if (strcmp(all[i].name, name) == 0) {
-            *all[i].which = all[i].wrong;
+    for (size_t i = 0; i < sizeof all_wrong / sizeof *all_wrong; i++)
+        if (strcmp(all_wrong[i].name, name) == 0) {
+            *all_wrong[i].which = all_wrong[i].wrong;
             return true;
         }
     return false;
 }
 
+static void print_wrong_names(void) {
+    for (size_t i = 0; i < sizeof all_wrong / sizeof *all_wrong; i++)
+        puts(all_wrong[i].name);
+}
+
 int main(int words, char **word) {
     uint64_t seed = 1, count = 2000000;
+    if (words == 2 && strcmp(word[1], "--self-test-names") == 0) {
+        print_wrong_names();
+        return 0;
+    }
     if (words > 1 && strcmp(word[1], "--self-test") == 0) {
         if (words != 3 || !make_wrong(word[2])) {
-            fprintf(stderr, "compare: --self-test wrong_place, wrong_rows, reads_behind, reads_before or writes\n");
+            fprintf(stderr, "compare: --self-test and one of --self-test-names\n");
             return 2;
         }
         count = 1;

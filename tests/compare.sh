@@ -4,7 +4,8 @@
 source "$(dirname "${BASH_SOURCE[0]}")/host.bash"
 need_c
 need_archive
-build_c "$work/compare" tests/compare.c tests/guarded.c tests/sides.c tests/constructed.c tests/circuits.c $oracle
+build_c "$work/compare" tests/compare.c tests/wrong_kinds.c tests/guarded.c tests/sides.c tests/constructed.c tests/circuits.c $oracle
 
-finds "$work/compare" 'compare: mismatch: ' wrong_place wrong_rows reads_behind reads_before writes
+names=$(run "$work/compare" --self-test-names) && [ -n "$names" ] || exit 1
+finds "$work/compare" 'compare: mismatch: ' $names
 run "$work/compare" "$@"

@@ -41,7 +41,9 @@ typedef struct {
 #define COMPARATOR(x, y) "10 0018 0E 00 " x " " y " " ZERO ZERO ZERO ZERO
 #define MULTIPLEXER(connector) "10 001B 0F 00 " connector " " NONE NONE ZERO ZERO ZERO ZERO
 #define DIFFERENTIAL(on, delta) "10 0015 10 00 " AI1 ZERO ZERO on " " delta " "
-#define UNKNOWN_KIND "10 0001 11 "
+#define COUNTER(on, off) "10 0013 11 00 " NONE I1 NONE on " " off " "
+#define STAIRWAY(base, t, warning, dark) "10 0015 12 00 " I1 base " " t " " warning " " dark " "
+#define UNKNOWN_KIND "10 0001 14 "
 
 static const named_case cases[] = {
     /* document 01's cases */
@@ -76,7 +78,9 @@ static const named_case cases[] = {
     {"end field with content cut", 1, 0, 0, H("0000") "> 7F 0001"},
     {"block cut", 1, 0, 0, H("0001") "> 10 000E 01 00 01 0001"},
     {"block cut behind its kind", 1, 0, 0, H("0001") "> 10 000E 01"},
-    {"block of an unknown kind cut", 1, 0, 0, H("0001") "> 10 0002 11"},
+    {"block of an unknown kind cut", 1, 0, 0, H("0001") "> 10 0002 14"},
+    {"counter cut", 1, 0, 0, H("0001") "> 10 0013 11 00 " NONE I1 NONE ZERO "000000"},
+    {"stairway switch cut", 1, 0, 0, H("0001") "> 10 0015 12 00 " I1 ZERO ZERO ZERO "000000"},
     {"block of a wrong length cut", 1, 0, 0, H("0001") "> 10 000F 01 00 " I1 NONE NONE NONE},
     {"block too many cut", 1, 0, 0, H("0000") "> 10 000E 01"},
     {"block behind a row cut", 1, 0, 0, H("0000") ROW("01 01", I1) "> 10 000E 01"},
@@ -86,7 +90,7 @@ static const named_case cases[] = {
     {"row cut", 1, 0, 0, H("0000") "> 30 0005 01 01 01 00"},
     {"first row with blocks missing cut", 1, 0, 0, H("0001") "> 30 0005 01"},
     {"row of a wrong length cut", 1, 0, 0, H("0000") "> 30 0006 01 01 " I1},
-    {"length 65535 cut by one byte", 1, 0, 0, H("0001") "> 10 FFFF *65534{11}"},
+    {"length 65535 cut by one byte", 1, 0, 0, H("0001") "> 10 FFFF *65534{14}"},
     {"length 65535 cut at once", 1, 0, 0, H("0001") "> 10 FFFF"},
 
     /* 2: tags and lengths */
@@ -124,6 +128,13 @@ static const named_case cases[] = {
     {"AND with two inputs", 2, 0, 0, H("0001") "> 10 0008 01 00 " I1 I1 E},
     {"XOR with four inputs", 2, 0, 0, H("0001") "> 10 000E 07 00 " I1 I1 I1 I1 E},
     {"parameters of two bytes", 2, 0, 0, H("0001") "> 10 0009 09 00 " I1 "0000 0000 " E},
+    {"counter of one byte", 2, 0, 0, H("0001") "> 10 0001 11 " E},
+    {"counter with two inputs", 2, 0, 0, H("0001") "> 10 0010 11 00 " I1 I1 ZERO ZERO E},
+    {"counter with the inputs of an AND", 2, 0, 0, H("0001") "> 10 000E 11 00 " I1 NONE NONE NONE E},
+    {"stairway switch of one byte", 2, 0, 0, H("0001") "> 10 0001 12 " E},
+    {"stairway switch with one time", 2, 0, 0, H("0001") "> 10 000D 12 00 " I1 ZERO ZERO E},
+    {"stairway switch with two times", 2, 0, 0, H("0001") "> 10 0011 12 00 " I1 ZERO ZERO ZERO E},
+    {"stairway switch with an R", 2, 0, 0, H("0001") "> 10 0018 12 00 " I1 NONE ZERO ZERO ZERO ZERO E},
     {"block behind a row", 2, 0, 0, H("0000") ROW("01 01", I1) "> " AND(I1) E},
     {"block behind a row, all blocks there", 2, 0, 0, H("0001") AND(I1) ROW("01 01", I1) "> " AND(I1) E},
     {"block of an unknown kind behind a row", 2, 0, 0, H("0000") ROW("01 01", I1) "> " UNKNOWN_KIND E},
@@ -168,6 +179,7 @@ static const named_case cases[] = {
     {"one too many, connector", 4, 0, 0, H("0000") "> " NOT("05 0000") E},
     {"one too many, names itself", 4, 0, 0, H("0001") AND(I1) "> " NOT("06 0002") E},
     {"one too many, parameter", 4, 0, 0, H("0000") "> " ON_DELAY("00000003", ZERO) E},
+    {"one too many, times out of order", 4, 0, 0, H("0000") "> " STAIRWAY(ZERO, ZERO, ONE, ZERO) E},
     {"one too many, index used twice", 4, 0, 0, H("0001") REGISTER(I1, ONE, ONE) "> " REGISTER(I1, ONE, ONE) E},
     {"first row, blocks missing", 4, 0, 0, H("0001") "> " ROW("01 01", I1) E},
     {"first row, one block missing", 4, 0, 0, H("0002") AND(I1) "> " ROW("01 01", I1) AND(I1) E},
@@ -179,12 +191,12 @@ static const named_case cases[] = {
 
     /* 5: kinds and options */
     {"kind 0", 5, 0, 0, H("0001") "> 10 000E 00 00 " I1 NONE NONE NONE E},
-    {"kind 17", 5, 0, 0, H("0001") "> 10 000E 11 00 " I1 NONE NONE NONE E},
+    {"kind 20", 5, 0, 0, H("0001") "> 10 000E 14 00 " I1 NONE NONE NONE E},
     {"kind 0x81", 5, 0, 0, H("0001") "> 10 000E 81 00 " I1 NONE NONE NONE E},
     {"kind 255", 5, 0, 0, H("0001") "> 10 000E FF 00 " I1 NONE NONE NONE E},
     {"unknown kind, one byte", 5, 0, 0, H("0001") "> " UNKNOWN_KIND E},
-    {"unknown kind, 65535 bytes", 5, 0, 0, H("0001") "> 10 FFFF *65535{11} " E},
-    {"unknown kind, all else bad too", 5, 0, 0, H("0001") "> 10 0005 11 FF 05 FFFF " E},
+    {"unknown kind, 65535 bytes", 5, 0, 0, H("0001") "> 10 FFFF *65535{14} " E},
+    {"unknown kind, all else bad too", 5, 0, 0, H("0001") "> 10 0005 14 FF 05 FFFF " E},
     {"unknown kind with a label of 17 bytes", 5, 0, 0, H("0001") "> " UNKNOWN_KIND "20 0011 *17{41} " E},
     {"retentive AND", 5, 0, 0, H("0001") "> 10 000E 01 01 " I1 NONE NONE NONE E},
     {"retentive NOT", 5, 0, 0, H("0001") "> 10 0005 08 01 " I1 E},
@@ -193,6 +205,9 @@ static const named_case cases[] = {
     {"option bits 0 and 1 on a relay", 5, 0, 0, H("0001") "> " RELAY("03") E},
     {"option bit 7 on a relay", 5, 0, 0, H("0001") "> " RELAY("80") E},
     {"option bits 0 and 7 on a relay", 5, 0, 0, H("0001") "> " RELAY("81") E},
+    {"option bit 1 on a counter", 5, 0, 0, H("0001") "> 10 0013 11 02 " NONE I1 NONE ZERO ZERO E},
+    {"option bit 7 on a stairway switch", 5, 0, 0, H("0001") "> 10 0015 12 80 " I1 ZERO ZERO ZERO ZERO E},
+    {"option and times out of order", 5, 0, 0, H("0001") "> 10 0015 12 02 " I1 ZERO ZERO ONE ZERO E},
     {"option and connector", 5, 0, 0, H("0001") "> 10 0005 08 01 05 0000 " E},
     {"option and own block", 5, 0, 0, H("0001") "> 10 0005 08 01 06 0001 " E},
     {"option and parameter", 5, 0, 0, H("0001") "> 10 000D 09 02 " I1 MINUS_ONE ZERO E},
@@ -236,6 +251,8 @@ static const named_case cases[] = {
     {"analog class names an AND", 6, 0, 0, H("0002") AND(I1) "> " TRIGGER("09 0001") E},
     {"analog class names a trigger", 6, 0, 0, H("0002") TRIGGER(AI1) "> " TRIGGER("09 0001") E},
     {"analog class names a comparator", 6, 0, 0, H("0002") COMPARATOR(AI1, AI1) "> " TRIGGER("09 0001") E},
+    {"analog class names a counter", 6, 0, 0, H("0002") COUNTER(ZERO, ZERO) "> " TRIGGER("09 0001") E},
+    {"analog class names a stairway switch", 6, 0, 0, H("0002") STAIRWAY(ZERO, ZERO, ZERO, ZERO) "> " TRIGGER("09 0001") E},
     {"second connector", 6, 0, 0, H("0001") "> " AND4(I1, "05 0000", NONE, NONE) E},
     {"fourth connector", 6, 0, 0, H("0001") "> " AND4(I1, I1, I1, "01 0019") E},
     {"second analog connector", 6, 0, 0, H("0001") "> " COMPARATOR(AI1, NONE) E},
@@ -245,6 +262,7 @@ static const named_case cases[] = {
     {"later block at an analog input by the digital class", 6, 0, 0, H("0002") "> " TRIGGER("06 0002") NOT(I1) E},
     {"own block inverted by the analog class", 6, 0, 0, H("0001") "> " TRIGGER("89 0001") E},
     {"connector and parameter", 6, 0, 0, H("0001") "> 10 000D 09 00 01 0019 " MINUS_ONE ZERO E},
+    {"connector and times out of order", 6, 0, 0, H("0001") "> 10 0015 12 00 01 0019 " ZERO ZERO ONE ZERO E},
     {"connector and index used twice", 6, 0, 0, H("0002") REGISTER(I1, ONE, ONE) "> " REGISTER("01 0000", ONE, ONE) E},
 
     /* 6: connectors of rows */
@@ -263,6 +281,7 @@ static const named_case cases[] = {
     {"row block above n", 6, 0, 0, H("0001") AND(I1) "> " ROW("01 01", "06 0002") E},
     {"row Q from a multiplexer by the digital class", 6, 0, 0, H("0001") MULTIPLEXER(I1) "> " ROW("01 01", "06 0001") E},
     {"row AQ from an AND by the analog class", 6, 0, 0, H("0001") AND(I1) "> " ROW("03 01", "09 0001") E},
+    {"row AQ from a counter by the analog class", 6, 0, 0, H("0001") COUNTER(ZERO, ZERO) "> " ROW("03 01", "09 0001") E},
     {"row Q from a multiplexer by the analog class", 6, 0, 0, H("0001") MULTIPLEXER(I1) "> " ROW("01 01", "09 0001") E},
     {"row of unknown class, unused", 6, 0, 0, H("0000") "> " ROW("00 00", NONE) E},
     {"row of unknown class, inverted unused", 6, 0, 0, H("0000") "> " ROW("05 01", "80 0000") E},
@@ -289,6 +308,7 @@ static const named_case cases[] = {
     {"multiplexer names itself by the digital class", 7, 0, 0, H("0001") "> " MULTIPLEXER("06 0001") E},
     {"own block at the fourth input", 7, 0, 0, H("0001") "> " AND4(I1, I1, I1, "06 0001") E},
     {"own block and parameter", 7, 0, 0, H("0001") "> 10 000D 09 00 06 0001 00000003 " ZERO E},
+    {"own block and times out of order", 7, 0, 0, H("0001") "> 10 0015 12 00 06 0001 " ZERO ZERO ONE ZERO E},
     {"own block and index used twice", 7, 0, 0, H("0002") REGISTER(I1, ONE, ONE) "> " REGISTER("06 0002", ONE, ONE) E},
 
     /* 8: parameters */
@@ -318,6 +338,24 @@ static const named_case cases[] = {
     {"delta 20001", 8, 0, 0, H("0001") "> " DIFFERENTIAL(ZERO, "00004E21") E},
     {"V1 32768", 8, 0, 0, H("0001") "> 10 001B 0F 00 " NONE NONE NONE "00008000 " ZERO ZERO ZERO E},
     {"V4 -32769", 8, 0, 0, H("0001") "> 10 001B 0F 00 " NONE NONE NONE ZERO ZERO ZERO "FFFF7FFF " E},
+    {"On -1 of a counter", 8, 0, 0, H("0001") "> " COUNTER(MINUS_ONE, ZERO) E},
+    {"On 1000000", 8, 0, 0, H("0001") "> " COUNTER("000F4240", ZERO) E},
+    {"Off -1 of a counter", 8, 0, 0, H("0001") "> " COUNTER(ZERO, MINUS_ONE) E},
+    {"Off 1000000", 8, 0, 0, H("0001") "> " COUNTER("000F423F", "000F4240") E},
+    {"T! above T by one", 8, 0, 0, H("0001") "> " STAIRWAY(ZERO, "00000006", "00000007", "00000002") E},
+    {"T!L above T! by one", 8, 0, 0, H("0001") "> " STAIRWAY(ZERO, "00000006", "00000003", "00000004") E},
+    {"T!L above T by one, T! not", 8, 0, 0, H("0001") "> " STAIRWAY(ZERO, "00000006", "00000006", "00000007") E},
+    {"T and T! exchanged", 8, 0, 0, H("0001") "> " STAIRWAY(ONE, "00000003", "00000006", "00000002") E},
+    {"T! and T!L exchanged", 8, 0, 0, H("0001") "> " STAIRWAY("00000002", "00000006", "00000002", "00000003") E},
+    {"T 0, T! 1", 8, 0, 0, H("0001") "> " STAIRWAY(ZERO, ZERO, ONE, ZERO) E},
+    {"T! and T!L -1, in order", 8, 0, 0, H("0001") "> " STAIRWAY(ZERO, "00000005", MINUS_ONE, MINUS_ONE) E},
+    {"T!L -1, in order", 8, 0, 0, H("0001") "> " STAIRWAY(ZERO, "00000005", "00000003", MINUS_ONE) E},
+    {"T, T! and T!L -1, in order", 8, 0, 0, H("0001") "> " STAIRWAY(ONE, MINUS_ONE, MINUS_ONE, MINUS_ONE) E},
+    {"seconds: T, T! and T!L 10000", 8, 0, 0, H("0001") "> " STAIRWAY(ZERO, "00002710", "00002710", "00002710") E},
+    {"minutes: T 6000, T! and T!L 0", 8, 0, 0, H("0001") "> " STAIRWAY(ONE, "00001770", ZERO, ZERO) E},
+    {"hours: T, T! and T!L 9999", 8, 0, 0, H("0001") "> " STAIRWAY("00000002", "0000270F", "0000270F", "0000270F") E},
+    {"base 3 of a stairway switch", 8, 0, 0, H("0001") "> " STAIRWAY("00000003", ZERO, ZERO, ZERO) E},
+    {"base -1 of a stairway switch", 8, 0, 0, H("0001") "> " STAIRWAY(MINUS_ONE, ZERO, ZERO, ZERO) E},
     {"V2 of two bytes' sign", 8, 0, 0, H("0001") "> 10 001B 0F 00 " NONE NONE NONE ZERO "0000FFFF " ZERO ZERO E},
 
     /* 9: destinations */
@@ -370,9 +408,19 @@ static const named_case cases[] = {
     {"label behind the last block, then a row", 0, 2, 1, H("0002") AND(I1) NOT("06 0001") LABEL2 ROW("01 14", "86 0002") E},
     {"inverted lo and hi", 0, 1, 2,
      H("0001") AND4("82 0000", "83 0000", "81 0018", "84 0040") ROW("01 01", "82 0000") ROW("02 08", "83 0000") E},
-    {"retentive kinds 9 to 12", 0, 4, 0,
-     H("0004") "10 000D 09 01 " NONE ZERO "0000270F 10 0010 0A 01 " NONE NONE ONE "0000176F " RELAY("01") "10 0013 0C 01 " NONE NONE NONE
-     "00000004 00000008 " E},
+    {"retentive kinds 9 to 12, 17 and 18", 0, 6, 0,
+     H("0006") "10 000D 09 01 " NONE ZERO "0000270F 10 0010 0A 01 " NONE NONE ONE "0000176F " RELAY("01") "10 0013 0C 01 " NONE NONE
+     NONE "00000004 00000008 10 0013 11 01 " NONE NONE NONE ZERO "000F423F 10 0015 12 01 " NONE ONE "0000176F 0000176F 0000176F " E},
+    {"ends of On and Off", 0, 3, 0, H("0003") COUNTER("000F423F", "000F423F") COUNTER(ZERO, "000F423F") COUNTER("000F423F", ZERO) E},
+    {"all three times at the end of each base", 0, 3, 0,
+     H("0003") STAIRWAY(ZERO, "0000270F", "0000270F", "0000270F") STAIRWAY(ONE, "0000176F", "0000176F", "0000176F")
+     STAIRWAY("00000002", "0000176F", "0000176F", "0000176F") E},
+    {"no time at all, T alone, T and T!, T 6 with 3 and 2", 0, 4, 0,
+     H("0004") STAIRWAY(ZERO, ZERO, ZERO, ZERO) STAIRWAY(ZERO, ONE, ZERO, ZERO) STAIRWAY(ZERO, ONE, ONE, ZERO)
+     STAIRWAY(ZERO, "00000006", "00000003", "00000002") E},
+    {"a counter and a stairway switch named by a block and rows", 0, 3, 2,
+     H("0003") COUNTER("00000005", "00000005") STAIRWAY(ZERO, ZERO, ZERO, ZERO) AND4("06 0001", "86 0002", NONE, NONE)
+     ROW("01 01", "06 0002") ROW("02 01", "86 0001") E},
     {"Off of a differential trigger is 40000", 0, 1, 0, H("0001") DIFFERENTIAL("00004E20", "00004E20") E},
     {"ends of V", 0, 1, 0, H("0001") "10 001B 0F 00 " NONE NONE NONE "FFFF8000 00007FFF " ZERO MINUS_ONE E},
     {"a multiplexer named by blocks and a row", 0, 3, 2,
@@ -470,7 +518,8 @@ static void options(unsigned kind) {
     make_three(kind);
     for (unsigned option = 0; option < 256; option++) {
         made.bytes[last_block + 4] = (uint8_t)option;
-        expect("options", option == 0 || (option == 1 && 9 <= kind && kind <= 12) ? 0 : 5, last_block);
+        const bool retentive = (9 <= kind && kind <= 12) || kind == 17 || kind == 18;
+        expect("options", option == 0 || (option == 1 && retentive) ? 0 : 5, last_block);
     }
 }
 
@@ -522,9 +571,10 @@ static void parameter(unsigned kind, unsigned i, int64_t value, bool fits) {
     memcpy(at, before, 4);
 }
 
+/* Each with the others at their least. T! and T!L, which may not be above T, have a family of their own. */
 static void parameters(unsigned kind) {
     make_three(kind);
-    for (unsigned i = 0; i < shapes[kind].parameters; i++) {
+    for (unsigned i = 0; i < shapes[kind].parameters && (i < 2 || kind != 18); i++) {
         const int64_t least = shapes[kind].least[i], greatest = shapes[kind].greatest[i];
         static const int64_t off[] = {-1, -2, -256, -65536, -16777216};
         parameter(kind, i, least, true);
@@ -536,11 +586,52 @@ static void parameters(unsigned kind) {
         parameter(kind, i, INT32_MIN, false);
         parameter(kind, i, INT32_MAX, false);
     }
-    for (int32_t base = 0; is_delay(kind) && base <= 2; base++) {
+}
+
+/* ---- families: times */
+
+static bool is_time(int32_t base, int32_t t) { return 0 <= t && t <= (base == 0 ? 9999 : 5999); }
+
+/* T alone: the other times are 0. */
+static void settings(unsigned kind) {
+    make_three(kind);
+    for (int32_t base = 0; base <= 2; base++) {
         put_four(made.bytes + last_block + parameter_at(kind, 0), base);
         for (int32_t t = -1; t <= 10000; t++)
-            parameter(kind, 1, t, 0 <= t && t <= (base == 0 ? 9999 : 5999));
+            parameter(kind, 1, t, is_time(base, t));
     }
+}
+
+static void try_times(int32_t base, int32_t t, int32_t warning, int32_t dark) {
+    const int32_t values[] = {base, t, warning, dark};
+    const bool fit = 0 <= base && base <= 2 && is_time(base, t) && is_time(base, warning) && is_time(base, dark);
+    for (unsigned i = 0; i < 4; i++)
+        put_four(made.bytes + last_block + parameter_at(18, i), values[i]);
+    expect("three times", fit && dark <= warning && warning <= t ? 0 : 8, last_block);
+}
+
+/* T, T! and T!L, each of them any of a few; and all three the same. */
+static void three_times(void) {
+    static const int32_t some[] = {INT32_MIN, -1, 0, 1, 2, 256, 5998, 5999, 6000, 9998, 9999, 10000, 65536, INT32_MAX};
+    enum { SOME = sizeof some / sizeof *some };
+    make_three(18);
+    for (int32_t base = -1; base <= 3; base++) {
+        for (unsigned choice = 0; choice < SOME * SOME * SOME; choice++)
+            try_times(base, some[choice % SOME], some[choice / SOME % SOME], some[choice / SOME / SOME]);
+        for (int32_t t = -1; t <= 10000; t++)
+            try_times(base, t, t, t);
+    }
+}
+
+/* ---- families: kinds that there are not, with the length and content of each that there is */
+
+static void unknown_kinds(void) {
+    for (unsigned unknown = 0; unknown < 256; unknown = unknown == 0 ? 20 : unknown + 1)
+        for (unsigned kind = 1; kind <= KINDS; kind++) {
+            make_three(kind);
+            made.bytes[last_block + 3] = (uint8_t)unknown;
+            expect("unknown kind", 5, last_block);
+        }
 }
 
 /* ---- families: headers and rows */
@@ -669,6 +760,11 @@ void each_constructed(known_visitor *visit) {
         connectors(kind);
         parameters(kind);
     }
+    settings(9);
+    settings(10);
+    settings(18);
+    three_times();
+    unknown_kinds();
     headers();
     tags();
     destinations();

@@ -157,17 +157,32 @@ run() {
     "${runner[@]}" "$@"
 }
 
-# finds PROGRAM MISMATCH NAME..: by `--self-test NAME` the program is told to meet a fault; it must print a line that begins so, with status 1
+# found PROGRAM MISMATCH NAME: by `--self-test NAME` the program is told to meet a fault; it must print a line that begins so, with status 1
+found() {
+    local status told="$work/found.$3"
+    run "$1" --self-test "$3" >"$told" 2>&1
+    status=$?
+    if [ "$status" -ne 1 ] || ! grep -q "^$2" "$told"; then
+        echo "${1##*/}: self-test $3: not found (status $status)"
+        cut -c1-200 "$told"
+        return 1
+    fi
+    echo "${1##*/}: self-test $3: found"
+}
+
+# finds PROGRAM MISMATCH NAME..: each of them, two at a time
 finds() {
-    local name status
-    for name in "${@:3}"; do
-        run "$1" --self-test "$name" >"$work/found" 2>&1
-        status=$?
-        if [ "$status" -ne 1 ] || ! grep -q "^$2" "$work/found"; then
-            echo "${1##*/}: self-test $name: not found (status $status)"
-            cut -c1-200 "$work/found"
-            exit 1
-        fi
-        echo "${1##*/}: self-test $name: found"
+    local program=$1 mismatch=$2 name pid
+    shift 2
+    while [ $# -gt 0 ]; do
+        local pids=()
+        for name in "${@:1:2}"; do
+            found "$program" "$mismatch" "$name" &
+            pids+=($!)
+        done
+        for pid in "${pids[@]}"; do
+            wait "$pid" || exit 1
+        done
+        shift $(($# > 1 ? 2 : 1))
     done
 }

@@ -23,7 +23,7 @@ void random_record(const circuit *c, chance *with, bool in_scan, int32_t *record
 /* Allowed input words. */
 void random_inputs(chance *with, int32_t *inputs);
 
-/* An allowed e, most often one that a delay of this record is just reached or missed with. */
+/* An allowed e, most often one that a time of this record is just reached or missed with. */
 int32_t random_e(const circuit *c, chance *with, const int32_t *record);
 
 #endif

@@ -166,6 +166,8 @@ void put_hard_labels(circuit *c, chance *with) {
 #define LABELLED "16,8,0,1,1,1,"
 #define UNLABELLED "16,8,0,1,1,0,"
 #define DELAY "16,9,0,1,1,"
+#define COUNTER_ROW "16,17,0,1,1,1,2,1,3,"
+#define STAIRWAY_ROW "16,18,0,1,1,"
 #define QUOTES_16 "\"\"\"\"\"\"\"\"\"\"\"\"\"\"\"\""
 
 static const struct {
@@ -195,6 +197,10 @@ static const struct {
     {GOOD("the ends of parameters", DELAY "-2147483648,2147483647,0,", 25, 1)},
     {GOOD("minus 0", DELAY "-0,-000,0,", 25, 1)},
     {GOOD("the ends of numbers", "48,255,255,255,65535", 17, 1)},
+    {GOOD("a counter", COUNTER_ROW "999999,0,0,", 31, 1)},
+    {GOOD("a counter with parameters of any size", COUNTER_ROW "-2147483648,1000000,1,pallets\r\n", 41, 1)},
+    {GOOD("a stairway switch", STAIRWAY_ROW "0,6,3,2,0,", 33, 1)},
+    {GOOD("a stairway switch with times in any order", STAIRWAY_ROW "-1,2,2147483647,6,1,", 36, 1)},
     {BAD("a line end alone", "\n", 31, 1)},
     {BAD("CRLF alone", "\r\n", 31, 1)},
     {BAD("CR alone", "\r", 31, 1)},
@@ -233,13 +239,22 @@ static const struct {
     {BAD("semicolons", "16;8;0;1;1;0;", 31, 1)},
     {BAD("a heading", "tag,kind,options\n" UNLABELLED, 31, 1)},
     {BAD("kind 0", "16,0,0,1,1,0,", 31, 1)},
-    {BAD("kind 17", "16,17,0,1,1,0,", 31, 1)},
+    {BAD("kind 20", "16,20,0,1,1,0,", 31, 1)},
+    {BAD("kind 255", "16,255,0,1,1,0,", 31, 1)},
+    {BAD("kind 274", "16,274,0,1,1,0,6,3,2,0,", 31, 1)},
     {BAD("kind 264", "16,264,0,1,1,0,", 31, 1)},
     {BAD("an empty kind", "16,,0,1,1,0,", 31, 1)},
     {BAD("minus before a kind", "16,-8,0,1,1,0,", 31, 1)},
     {BAD("a cell too few", "16,8,0,1,1,0", 31, 1)},
     {BAD("a cell too many", UNLABELLED ",", 31, 1)},
     {BAD("a comma behind a row", "48,1,1,6,1,", 31, 1)},
+    {BAD("a counter with one input", "16,17,0,1,1,5,5,0,", 31, 1)},
+    {BAD("a counter with one parameter", COUNTER_ROW "5,0,", 31, 1)},
+    {BAD("a counter with three parameters", COUNTER_ROW "5,5,5,0,", 31, 1)},
+    {BAD("a stairway switch with one time", STAIRWAY_ROW "0,6,0,", 31, 1)},
+    {BAD("a stairway switch with two times", STAIRWAY_ROW "0,6,3,0,", 31, 1)},
+    {BAD("a stairway switch with four times", STAIRWAY_ROW "0,6,3,2,1,0,", 31, 1)},
+    {BAD("a stairway switch with two inputs", "16,18,0,1,1,0,0,0,6,3,2,0,", 31, 1)},
     {BAD("an empty number", "48,1,1,6,", 32, 1)},
     {BAD("option 256", "16,8,256,1,1,0,", 32, 1)},
     {BAD("class 256", "16,8,0,256,1,0,", 32, 1)},
@@ -252,6 +267,9 @@ static const struct {
     {BAD("a point in a number", "16,8,0,1,1.0,0,", 32, 1)},
     {BAD("a quote in a number", "16,8,0,1,\"1\"\"\",0,", 32, 1)},
     {BAD("a parameter too large", DELAY "0,2147483648,0,", 32, 1)},
+    {BAD("Off of a counter too large", COUNTER_ROW "5,2147483648,0,", 32, 1)},
+    {BAD("T!L too small", STAIRWAY_ROW "0,6,3,-2147483649,0,", 32, 1)},
+    {BAD("T!L empty", STAIRWAY_ROW "0,6,3,,0,", 32, 1)},
     {BAD("a parameter too small", DELAY "-2147483649,0,0,", 32, 1)},
     {BAD("minus alone", DELAY "-,0,0,", 32, 1)},
     {BAD("minus twice", DELAY "--1,0,0,", 32, 1)},

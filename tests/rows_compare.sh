@@ -5,8 +5,8 @@
 source "$(dirname "${BASH_SOURCE[0]}")/host.bash"
 need_c
 need_archive
-build_c "$work/rows_compare" tests/rows_compare.c tests/row_texts.c tests/wrong_rows.c tests/guarded.c tests/sides.c tests/constructed.c \
-    tests/circuits.c $oracle
+build_c "$work/rows_compare" tests/rows_compare.c tests/row_texts.c tests/wrong_rows.c tests/wrong_kinds.c tests/guarded.c tests/sides.c \
+    tests/constructed.c tests/circuits.c $oracle
 
 names=$(run "$work/rows_compare" --self-test-names) && [ -n "$names" ] || exit 1
 finds "$work/rows_compare" 'rows: mismatch: ' $names

@@ -25,20 +25,23 @@ sys.dont_write_bytecode = True
 from stored_circuits import block, end, header, label, row  # noqa: E402
 
 GAIN, OFFSET, THRESHOLD, VALUE = (-1000, 1000), (-10000, 10000), (-20000, 20000), (-32768, 32767)
+BASE, TIME, COUNT = (0, 2), (0, 5999), (0, 999999)
 # inputs, a letter each: d digital, a analog; ranges of the parameters; may be retentive
 KINDS = {kind: ("dddd", (), False) for kind in range(1, 7)} | {
     7: ("dd", (), False),
     8: ("d", (), False),
-    9: ("d", ((0, 2), (0, 5999)), True),
-    10: ("dd", ((0, 2), (0, 5999)), True),
+    9: ("d", (BASE, TIME), True),
+    10: ("dd", (BASE, TIME), True),
     11: ("dd", (), True),
     12: ("ddd", ((1, 4), (1, 8)), True),
     13: ("a", (GAIN, OFFSET, THRESHOLD, THRESHOLD), False),
     14: ("aa", (GAIN, OFFSET, THRESHOLD, THRESHOLD), False),
     15: ("ddd", (VALUE,) * 4, False),
     16: ("a", (GAIN, OFFSET, THRESHOLD, THRESHOLD), False),
+    17: ("ddd", (COUNT, COUNT), True),
+    18: ("d", (BASE, TIME, TIME, TIME), True),
 }
-REGISTER, MULTIPLEXER = 12, 15
+REGISTER, MULTIPLEXER, STAIRWAY = 12, 15, 18
 UNUSED = (0, 0)
 DESTINATIONS = [(cls, k) for cls, greatest in ((1, 20), (2, 64), (3, 8), (4, 64)) for k in range(1, greatest + 1)]
 MOST_BLOCKS = 400
@@ -82,6 +85,8 @@ def random_circuit(chance, n, rows):
         if kind == REGISTER:
             registers += 1
             parameters[0] = registers
+        if kind == STAIRWAY:
+            parameters[1:] = sorted(parameters[1:], reverse=True)
         options = chance.randint(0, 1) if retentive else 0
         name = random_label(chance)
         kinds.append(kind)

@@ -9,6 +9,14 @@ const side sides[SIDES] = {
                 oracle_read_rows, oracle_write_rows},
 };
 
+void put_calls(side *to, const side *from) {
+    to->cold_start = from->cold_start != NULL ? from->cold_start : to->cold_start;
+    to->warm_start = from->warm_start != NULL ? from->warm_start : to->warm_start;
+    to->latch = from->latch != NULL ? from->latch : to->latch;
+    to->run = from->run != NULL ? from->run : to->run;
+    to->publish = from->publish != NULL ? from->publish : to->publish;
+}
+
 bool same_answer(serifdove_answer a, serifdove_answer b) {
     return a.number == b.number && a.place == b.place && a.first == b.first && a.second == b.second;
 }

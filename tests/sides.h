@@ -30,6 +30,9 @@ enum { ARCHIVE, ORACLE, SIDES };
 
 extern const side sides[SIDES];
 
+/* Puts the calls on a record that `from` has, the others being NULL there, into the side. */
+void put_calls(side *to, const side *from);
+
 bool same_answer(serifdove_answer a, serifdove_answer b);
 
 #endif

@@ -2,6 +2,7 @@
 
 #include "calls.h"
 #include "constructed.h"
+#include "plays.h"
 
 #include <string.h>
 
@@ -41,11 +42,10 @@ static void run_block(unsigned inputs, int32_t x, int32_t y, int32_t e, const in
 
 static const unsigned plain[4][2] = {{1, 1}, {1, 2}, {1, 3}, {1, 4}};
 
-/* Each input direct, inverted or unused; all inputs, outputs before and remembered bits. */
+/* Each input direct, inverted or unused; all inputs, outputs before and remembered words. */
 static void sweep_digital(unsigned kind, const int32_t *parameters) {
     static const unsigned classes[3] = {1, 0x81, 0};
     const unsigned inputs = inputs_of(kind);
-    const bool remembers = kind == 2 || kind == 4 || kind == 12;
     unsigned choices = 1;
     for (unsigned i = 0; i < inputs; i++)
         choices *= 3;
@@ -56,8 +56,9 @@ static void sweep_digital(unsigned kind, const int32_t *parameters) {
             connectors[i][1] = rest % 3 == 2 ? 0 : i + 1;
         }
         make_block(kind, (const unsigned(*)[2])connectors, parameters);
+        const int32_t remembered = range_at(&made, SERIFDOVE_BLOCK_REMEMBERED(1), true).greatest;
         for (unsigned bits = 0; bits < 1u << inputs; bits++)
-            for (int32_t own = 0; own < (remembers ? 4 : 2); own++)
+            for (int32_t own = 0; own < 2 * (remembered + 1); own++)
                 run_block(bits, 0, 0, 0, (const int32_t[3]){own & 1, own >> 1, 0});
     }
 }
@@ -67,7 +68,7 @@ static void sweep_settings(unsigned kind) {
                                           {1, 1}, {1, 5999}, {2, 1}, {2, 11}, {2, 5999}};
     for (size_t s = 0; s < LENGTH(settings); s++) {
         make_block(kind, plain, settings[s]);
-        const int32_t t = ticks_of(&made, 1), counts[] = {0, 1, t / 2, t - 2, t - 1, t};
+        const int32_t t = ticks_of(&made, 1, 1), counts[] = {0, 1, t / 2, t - 2, t - 1, t};
         for (size_t k = 0; k < LENGTH(counts); k++) {
             const int32_t ta = counts[k] < 0 ? 0 : counts[k] > t ? t : counts[k];
             const int32_t elapsed[] = {0, 1, t - ta - 1, t - ta, t - ta + 1, 65535};
@@ -86,6 +87,50 @@ static void sweep_register(void) {
         for (size_t k = 0; k < LENGTH(registers); k++)
             for (unsigned bits = 0; bits < 32; bits++)
                 run_block(bits & 7, 0, 0, 0, (const int32_t[3]){bits >> 3 & 1, bits >> 4, registers[k]});
+    }
+}
+
+/* Counts at, below and above On, Off and both stops; all inputs, outputs before and remembered bits. */
+static void sweep_counts(int32_t on, int32_t off) {
+    const int32_t marks[] = {0, on, off, MOST_COUNT};
+    make_block(COUNTER, plain, (const int32_t[]){on, off});
+    for (size_t k = 0; k < LENGTH(marks); k++)
+        for (int32_t count = marks[k] - 1; count <= marks[k] + 1; count++)
+            for (unsigned bits = 0; 0 <= count && count <= MOST_COUNT && bits < 32; bits++)
+                run_block(bits & 7, 0, 0, 1, (const int32_t[3]){bits >> 3 & 1, bits >> 4, count});
+}
+
+static void sweep_counter(void) {
+    static const int32_t some[] = {0, 1, 5, 500000, MOST_COUNT - 1, MOST_COUNT};
+    for (size_t on = 0; on < LENGTH(some); on++)
+        for (size_t off = 0; off < LENGTH(some); off++)
+            sweep_counts(some[on], some[off]);
+}
+
+/* e that leads from this Ta to a tick before each edge, onto it, and to one behind it. */
+static void sweep_elapsed(const int32_t edges[4], int32_t ta, const int32_t own[2], unsigned trg) {
+    for (unsigned k = 0; k < 4; k++)
+        for (int32_t e = edges[k] - ta - 1; e <= edges[k] - ta + 1; e++)
+            if (0 <= e && e <= 65535)
+                run_block(trg, 0, 0, e, (const int32_t[3]){own[0], own[1], ta});
+    run_block(trg, 0, 0, 65535, (const int32_t[3]){own[0], own[1], ta});
+}
+
+/* Ta likewise beside each edge: the begin and the end of the dark time, and T. All Trg, outputs before and remembered words. */
+static void sweep_stairway(void) {
+    static const int32_t settings[][4] = {{0, 0, 0, 0},    {0, 1, 0, 0},          {0, 1, 1, 0},          {0, 1, 1, 1},
+                                          {0, 6, 3, 2},    {0, 3, 3, 1},          {0, 6, 4, 4},          {0, 6, 6, 0},
+                                          {1, 1, 1, 1},    {0, 9999, 9999, 9999}, {1, 5999, 5999, 5998}, {1, 600, 150, 100},
+                                          {2, 11, 10, 10}, {2, 1, 1, 0},          {2, 5999, 5999, 5999}, {2, 5999, 10, 1}};
+    for (size_t s = 0; s < LENGTH(settings); s++) {
+        make_block(STAIRWAY, plain, settings[s]);
+        const int32_t t = ticks_of(&made, 1, 1), dark = t - ticks_of(&made, 1, 2), lit = dark + ticks_of(&made, 1, 3);
+        const int32_t edges[4] = {0, dark, lit, t};
+        for (unsigned k = 0; k < 12; k++) {
+            const int32_t ta = edges[k / 3] + (int32_t)(k % 3) - 1;
+            for (int32_t bits = 0; 0 <= ta && ta <= t && bits < 16; bits++)
+                sweep_elapsed(edges, ta, (const int32_t[2]){bits & 1, bits >> 1 & 3}, (unsigned)bits >> 3);
+        }
     }
 }
 
@@ -128,7 +173,31 @@ static void sweep_thresholds(unsigned kind) {
             }
 }
 
+/* ---- kinds: one block in scans that are worked out by hand */
+
+/* Bit i is what input i has in this scan. */
+static unsigned inputs_in(const play *p, size_t scan) {
+    unsigned bits = 0;
+    for (unsigned i = 0; i < inputs_of(p->kind); i++)
+        bits |= (unsigned)(p->inputs[i][scan] == '1') << i;
+    return bits;
+}
+
+static void try_play(const play *p) {
+    int32_t own[3] = {p->before[0], p->before[1], p->before[2]};
+    make_block(p->kind, plain, p->parameters);
+    for (size_t scan = 0; p->outputs[scan] != 0; scan++) {
+        const int32_t by_hand[3] = {p->outputs[scan] - '0', p->remembered[scan] - '0', p->numbers[scan]};
+        run_block(inputs_in(p, scan), 0, 0, p->e, own);
+        memcpy(own, words.record + SERIFDOVE_BLOCK_OUTPUT(1), sizeof own);
+        if (memcmp(own, by_hand, sizeof own) != 0)
+            tell_mismatch(p->name);
+    }
+}
+
 void sweep_kinds(void) {
+    for (size_t k = 0; k < play_count; k++)
+        try_play(&plays[k]);
     for (unsigned kind = 1; kind <= 8; kind++)
         sweep_digital(kind, NULL);
     sweep_settings(9);
@@ -141,6 +210,10 @@ void sweep_kinds(void) {
     sweep_thresholds(13);
     sweep_thresholds(14);
     sweep_thresholds(16);
+    sweep_digital(COUNTER, (const int32_t[]){1, 1});
+    sweep_counter();
+    sweep_digital(STAIRWAY, (const int32_t[]){0, 6, 3, 2});
+    sweep_stairway();
 }
 
 /* ---- refusals: what number each call must get, from ranges and phases alone */
@@ -196,16 +269,18 @@ static call some_latch(chance *with) {
     return latch_of(between(with, 0, 65535), inputs);
 }
 
-/* ---- a circuit with all kinds, and delays at the ends of each base */
+/* ---- a circuit with all kinds, and times at the ends of each base */
 
 static void make_every_kind(chance *with) {
-    static const int32_t settings[][2] = {{0, 0}, {0, 1}, {0, 9999}, {1, 1}, {1, 5999}, {2, 1}, {2, 5999}};
-    begin_circuit(&made, KINDS + 2 * LENGTH(settings));
+    static const int32_t settings[][4] = {{0, 0, 0, 0},      {0, 1, 1, 0}, {0, 9999, 9999, 1}, {1, 1, 1, 1},
+                                          {1, 5999, 60, 60}, {2, 1, 0, 0}, {2, 5999, 1, 1}};
+    begin_circuit(&made, KINDS + 3 * LENGTH(settings));
     for (unsigned kind = 1; kind <= KINDS; kind++)
         add_plain_block(&made, kind);
     for (size_t s = 0; s < LENGTH(settings); s++)
-        for (unsigned kind = 9; kind <= 10; kind++)
-            add_given_block(&made, kind, below(with, 2), plain, settings[s]);
+        for (unsigned kind = 1; kind <= KINDS; kind++)
+            if (times_of(kind) > 0)
+                add_given_block(&made, kind, below(with, 2), plain, settings[s]);
     for (unsigned k = 0; k < DESTINATIONS; k += 1 + below(with, 8)) {
         unsigned class, number;
         destination_of(k, &class, &number);

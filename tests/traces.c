@@ -31,6 +31,16 @@ static call some_latch(chance *with) {
     return latch_of(random_e(&made, with, words.record), inputs);
 }
 
+/* All inputs but a few are as the last latch left them. */
+static call quiet_latch(chance *with) {
+    call latch = some_latch(with), kept = latch_of(latch.e, words.record + SERIFDOVE_I(1));
+    for (unsigned k = below(with, 4); k > 0; k--) {
+        const unsigned i = below(with, once_in(with, 2) ? 4 : SERIFDOVE_INPUT_WORD_COUNT);
+        kept.inputs[i] = latch.inputs[i];
+    }
+    return kept;
+}
+
 static unsigned to_go(void) { return made.n - (unsigned)words.record[SERIFDOVE_DONE]; }
 
 /* A run, which must work out just the next blocks: at most c, and no word but theirs and the blocks-done word may change. */
@@ -120,20 +130,24 @@ static void try_size(chance *with, unsigned n) {
 
 /* ---- many scans behind one another */
 
-static void scan_once(chance *with, const char *scenario) {
-    const call latch = some_latch(with);
-    expect_number(scenario, &words, &latch, 0);
+static void scan_once(const char *scenario, chance *with, const call *latch) {
+    expect_number(scenario, &words, latch, 0);
     do
         run_exactly(scenario, once_in(with, 2) ? UINT32_MAX : below(with, made.n + 2));
     while (to_go() > 0);
     expect_number(scenario, &words, &publish, 0);
 }
 
-static void long_run(chance *with, unsigned n, unsigned scans) {
-    begin_lively(with, n, 8 + below(with, 24), 0);
-    expect_number("long run", &words, &cold, 0);
+/* From a cold start, or from a sound record that is lent; quiet, or with other inputs in each scan. */
+static void long_run(chance *with, unsigned n, unsigned scans, unsigned last_kind) {
+    const bool quiet = once_in(with, 2);
+    begin_lively(with, n, 8 + below(with, 24), last_kind);
+    random_record(&made, with, false, words.record);
+    if (once_in(with, 2))
+        expect_number("long run", &words, &cold, 0);
     for (unsigned scan = 0; scan < scans; scan++) {
-        scan_once(with, "long run");
+        const call latch = quiet ? quiet_latch(with) : some_latch(with);
+        scan_once("long run", with, &latch);
         if (once_in(with, 40))
             expect_number("long run", &words, &warm, 0);
     }
@@ -183,8 +197,10 @@ static void any_call(chance *with) {
     compare_call("any words", &words, &c);
 }
 
+/* Most often the last block has much to remember. */
 static void any_calls(chance *with, unsigned n, unsigned calls) {
-    begin_lively(with, n, below(with, 24), 1 + below(with, KINDS));
+    static const unsigned rich[] = {9, 10, 12, COUNTER, COUNTER, STAIRWAY, STAIRWAY};
+    begin_lively(with, n, below(with, 24), once_in(with, 3) ? 1 + below(with, KINDS) : rich[below(with, sizeof rich / sizeof *rich)]);
     for (unsigned k = 0; k < calls; k++)
         any_call(with);
 }
@@ -202,7 +218,7 @@ static void changed_circuit(chance *with) {
         size_t length = once_in(with, 8) ? below(with, (uint32_t)made.length + 1) : made.length;
         memcpy(bytes, made.bytes, made.length);
         for (unsigned k = 1 + below(with, 3); k > 0; k--)
-            bytes[below(with, (uint32_t)made.length)] = (uint8_t)(once_in(with, 3) ? below(with, 256) : below(with, 18));
+            bytes[below(with, (uint32_t)made.length)] = (uint8_t)(once_in(with, 3) ? below(with, 256) : below(with, KINDS + 1));
         lend_circuit(bytes, length, NULL);
         compare_call("changed circuit", &words, &c);
     }
@@ -211,19 +227,21 @@ static void changed_circuit(chance *with) {
 /* ---- the whole */
 
 static void once(chance *with) {
+    sweep_kinds();
     sweep_refusals(with);
     for (unsigned n = 0; n <= MOST_BLOCKS; n++)
         try_size(with, n);
-    long_run(with, MOST_BLOCKS, 20);
-    sweep_kinds();
+    long_run(with, MOST_BLOCKS, 20, 0);
 }
 
 static void round_of(chance *with) {
     for (unsigned n = 0; n <= 6; n++)
         part_scans(with, n);
     for (unsigned k = 0; k < 4; k++)
-        long_run(with, 1 + below(with, 16), 200);
-    long_run(with, 17 + below(with, 48), 100);
+        long_run(with, 1 + below(with, 16), 200, 0);
+    for (unsigned kind = COUNTER; kind <= STAIRWAY; kind++)
+        long_run(with, 1 + below(with, 3), 400, kind);
+    long_run(with, 17 + below(with, 48), 100, 0);
     for (unsigned k = 0; k < 100; k++)
         any_calls(with, below(with, 12), 40);
     for (unsigned k = 0; k < 200; k++)

@@ -1,6 +1,7 @@
 #include "wrong_rows.h"
 
 #include "row_texts.h"
+#include "wrong_kinds.h"
 
 #include <stdio.h>
 #include <string.h>
@@ -114,6 +115,15 @@ static serifdove_answer counts_rows_from_0(const uint8_t *text, size_t text_len,
     return answer;
 }
 
+static serifdove_answer knows_17_kinds(const uint8_t *text, size_t text_len, uint8_t *circuit, size_t circuit_len) {
+    static const char switch_row[] = "16,18,";
+    const size_t length = strlen(switch_row);
+    const serifdove_answer answer = oracle->read_rows(text, text_len, circuit, circuit_len);
+    if (answer.number == 0 && text_len > length && memcmp(text, switch_row, length) == 0)
+        return (serifdove_answer){31, 1, 0, 0};
+    return answer;
+}
+
 /* ---- wrong bytes of the second slice, by either call */
 
 static unsigned touched_on;
@@ -169,6 +179,10 @@ static serifdove_answer forgets_the_place(const uint8_t *circuit, size_t circuit
     serifdove_answer answer = oracle->write_rows(circuit, circuit_len, text, text_len);
     answer.place = answer.number == 10 ? 0 : answer.place;
     return answer;
+}
+
+static serifdove_answer writes_times_in_any_order(const uint8_t *circuit, size_t circuit_len, uint8_t *text, size_t text_len) {
+    return oracle->write_rows(times_in_order(circuit, circuit_len), circuit_len, text, text_len);
 }
 
 static serifdove_answer counts_one_row_more(const uint8_t *circuit, size_t circuit_len, uint8_t *text, size_t text_len) {
@@ -229,6 +243,7 @@ static const struct {
     {"stops_at_block_401", stops_at_block_401, NULL, 0, 0},
     {"refuses_400_blocks", refuses_400_blocks, NULL, 0, 0},
     {"counts_rows_from_0", counts_rows_from_0, NULL, 0, 0},
+    {"knows_17_kinds", knows_17_kinds, NULL, 0, 0},
     {"read_with_room_short_by_one", read_with_room_short_by_one, NULL, 0, 0},
     {"reads_and_touches_bytes_behind", read_touching, NULL, 0, 0},
     {"reads_and_touches_on_30", read_touching, NULL, 30, 0},
@@ -242,6 +257,7 @@ static const struct {
     {"leaves_a_quote_single", NULL, leaves_a_quote_single, 0, 0},
     {"forgets_the_place", NULL, forgets_the_place, 0, 0},
     {"counts_one_row_more", NULL, counts_one_row_more, 0, 0},
+    {"writes_times_in_any_order", NULL, writes_times_in_any_order, 0, 0},
     {"writes_and_touches_bytes_behind", NULL, write_touching, 0, 0},
     {"writes_and_touches_on_10", NULL, write_touching, 10, 0},
     {"writes_and_touches_on_33", NULL, write_touching, 33, 0},

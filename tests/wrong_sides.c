@@ -1,5 +1,7 @@
 #include "wrong_sides.h"
 
+#include "wrong_kinds.h"
+
 #include <stdio.h>
 #include <string.h>
 
@@ -132,22 +134,17 @@ static const struct {
 };
 
 bool make_wrong(side *archive, const char *name) {
-    for (size_t i = 0; i < sizeof all / sizeof *all; i++) {
-        const side *wrong = &all[i].wrong;
-        if (strcmp(wrong->name, name) != 0)
-            continue;
-        touched = all[i].touched;
-        archive->cold_start = wrong->cold_start != NULL ? wrong->cold_start : archive->cold_start;
-        archive->warm_start = wrong->warm_start != NULL ? wrong->warm_start : archive->warm_start;
-        archive->latch = wrong->latch != NULL ? wrong->latch : archive->latch;
-        archive->run = wrong->run != NULL ? wrong->run : archive->run;
-        archive->publish = wrong->publish != NULL ? wrong->publish : archive->publish;
-        return true;
-    }
-    return false;
+    for (size_t i = 0; i < sizeof all / sizeof *all; i++)
+        if (strcmp(all[i].wrong.name, name) == 0) {
+            touched = all[i].touched;
+            put_calls(archive, &all[i].wrong);
+            return true;
+        }
+    return make_kinds_wrong(archive, name);
 }
 
 void print_wrong_names(void) {
     for (size_t i = 0; i < sizeof all / sizeof *all; i++)
         puts(all[i].wrong.name);
+    print_wrong_kinds();
 }

@@ -1,0 +1,16 @@
+/* The oracle's calls made wrong in what they know of the up/down counter and the stairway switch, each in one way. */
+#ifndef WRONG_KINDS_H
+#define WRONG_KINDS_H
+
+#include "sides.h"
+
+/* Puts the wrong calls of this name into the side; false where there is no such name. */
+bool make_kinds_wrong(side *archive, const char *name);
+
+/* All names, a line each. */
+void print_wrong_kinds(void);
+
+/* The same circuit with the times of each stairway switch in order: a call that is given it cannot tell that they were not. */
+const uint8_t *times_in_order(const uint8_t *circuit, size_t length);
+
+#endif
