@@ -22,17 +22,19 @@ static const kind kinds[] = {
     [14] = {"comparator", {"Ax", "Ay"}, {"A", "B", "On", "Off"}, false, false},
     [15] = {"multiplexer", {"En", "S1", "S2"}, {"V1", "V2", "V3", "V4"}, false, false},
     [16] = {"differential trigger", {"Ax"}, {"A", "B", "On", "Delta"}, false, false},
+    [17] = {"up/down counter", {"R", "Cnt", "Dir"}, {"On", "Off"}, true, false},
+    [18] = {"stairway switch", {"Trg"}, {"base", "T", "T!", "T!L"}, true, false},
 };
 
 const kind *kind_of(unsigned number) {
     return number < sizeof kinds / sizeof *kinds && kinds[number].name != NULL ? &kinds[number] : NULL;
 }
 
-bool is_delay(unsigned kind_number) { return kind_number == ON_DELAY || kind_number == OFF_DELAY; }
+bool has_time(unsigned kind_number) { return kind_number == ON_DELAY || kind_number == OFF_DELAY || kind_number == STAIRWAY_SWITCH; }
 
-int64_t ticks_of(const block *of) {
+int64_t ticks_of(const block *of, unsigned time) {
     static const int64_t unit[] = {1, 100, 6000};
-    return unit[of->parameters[0]] * of->parameters[1];
+    return unit[of->parameters[0]] * of->parameters[time];
 }
 
 /* ---- reading the fields of an accepted circuit */
@@ -57,6 +59,10 @@ static int32_t four_at(const uint8_t *at) {
     int32_t word;
     memcpy(&word, &bits, sizeof word);
     return word;
+}
+
+int32_t parameter_at(const uint8_t *field, const kind *k, size_t parameter) {
+    return four_at(field + FIELD_HEAD + 2 + CONNECTOR_BYTES * count_of(k->inputs) + PARAMETER_BYTES * parameter);
 }
 
 static connector connector_at(const uint8_t *at) {

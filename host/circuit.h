@@ -18,7 +18,11 @@ enum {
 };
 
 /* Kinds that are shown in a way of their own. */
-enum { ON_DELAY = 9, OFF_DELAY = 10, SHIFT_REGISTER = 12 };
+enum { ON_DELAY = 9, OFF_DELAY = 10, SHIFT_REGISTER = 12, UP_DOWN_COUNTER = 17, STAIRWAY_SWITCH = 18 };
+
+/* The kinds that there are, and those that may be retentive, for messages. */
+#define ALL_KINDS "1 to 18"
+#define RETENTIVE_KINDS "9 to 12, 17 and 18"
 
 /* The tags of fields, and the bytes of a field before its content. */
 enum { HEADER_TAG = 0x01, BLOCK_TAG = 0x10, LABEL_TAG = 0x20, ROW_TAG = 0x30, END_TAG = 0x7F, FIELD_HEAD = 3 };
@@ -52,13 +56,15 @@ typedef struct {
     const char *name;
     const char *inputs[MOST_OF_A_BLOCK];
     const char *parameters[MOST_OF_A_BLOCK];
-    bool remembers; /* it has a remembered bit */
+    bool remembers; /* it has a remembered word */
     bool unused;    /* what an unused input counts */
 } kind;
 
 /* The kind with this number; null if there is none. */
 const kind *kind_of(unsigned number);
-bool is_delay(unsigned kind_number);
+
+/* Whether its number is Ta, the time that has run of T: delays and the stairway switch. */
+bool has_time(unsigned kind_number);
 
 /* How many of these inputs or parameters a kind has. */
 size_t count_of(const char *const *names);
@@ -69,8 +75,14 @@ size_t block_length(const kind *k);
 /* Lays out the circuit. serifdove_check accepts these bytes, which stay where they are as long as the layout is used. */
 void lay_out(circuit *to, const uint8_t *bytes, size_t length);
 
-/* T of a delay. */
-int64_t ticks_of(const block *of);
+/* The parameter, from 0, of the block of this kind whose field begins here. */
+int32_t parameter_at(const uint8_t *field, const kind *k, size_t parameter);
+
+/* Which parameter is which time of a block that has one, behind their base: T, and of a stairway switch T! and T!L. */
+enum { WHOLE_TIME = 1, WARNING_TIME, DARK_TIME };
+
+/* This time of the block in ticks. */
+int64_t ticks_of(const block *of, unsigned time);
 
 /* What the connector brings to a block, by the words of the record as they are; `unused` where it is unused. */
 int32_t value_of(connector c, bool unused, const int32_t *record);

@@ -331,8 +331,8 @@ static line_text block_text(unsigned k, const int32_t *before, const int32_t *af
     const line_text head = text_of("B%u %s (%s)", k, label_of(b).text, kind_of(b->kind)->name);
     if (value != old)
         return text_of("%s %" PRId32 " -> %" PRId32, head.text, old, value);
-    if (is_delay(b->kind) && ticks != before[SERIFDOVE_BLOCK_NUMBER(k)])
-        return text_of("%s at %s of %s", head.text, time_of(ticks).text, time_of(ticks_of(b)).text);
+    if (has_time(b->kind) && ticks != before[SERIFDOVE_BLOCK_NUMBER(k)])
+        return text_of("%s at %s of %s", head.text, time_of(ticks).text, time_of(ticks_of(b, WHOLE_TIME)).text);
     return text_of("%s", "");
 }
 
@@ -389,7 +389,7 @@ static void do_printer_job(void) {
 
 static line_text record_word_text(size_t word) {
     static const char *const first[] = {"the phase", "blocks done", "the mark", "e"};
-    static const char *const of_block[] = {"the output", "the remembered bit", "the number"};
+    static const char *const of_block[] = {"the output", "the remembered word", "the number"};
     if (word < SERIFDOVE_I(1))
         return text_of("%s", first[word]);
     if (word < SERIFDOVE_M(1))

@@ -143,7 +143,7 @@ static struct timespec last_latch; /* up to when the last latch counted */
 static bool has_latched;
 
 /* The ticks that the clock counted since the last latch, 0 at the first one. A rest below a tick counts at the next. A surplus does
-   not: a delay that begins in this scan must not count time from before it. */
+   not: a delay or a stairway switch that begins in this scan must not count time from before it. */
 static elapsed by_the_clock(struct timespec now) {
     enum { TICK = 10000000, SECOND = 1000000000 };
     if (!has_latched)

@@ -82,14 +82,41 @@ static void add_gain(pieces *to, int32_t hundredths) {
     add(to, " ", gain);
 }
 
-static void add_parameters(pieces *to, const block *b) {
+/* The parameters, with this before the first. */
+static void add_parameters(pieces *to, const char *before, const block *b) {
     const kind *k = kind_of(b->kind);
     for (unsigned i = 0; i < MOST_OF_A_BLOCK && k->parameters[i] != NULL; i++) {
-        add(to, i == 0 ? "; " : ", ", k->parameters[i]);
+        add(to, i == 0 ? before : ", ", k->parameters[i]);
         if (strcmp(k->parameters[i], "A") == 0)
             add_gain(to, b->parameters[i]);
         else
             add_number(to, " ", b->parameters[i]);
+    }
+}
+
+/* "remembered 1"; of a stairway switch "remembered 2 (Trg 0, runs)". */
+static void add_remembered(pieces *to, const block *b, int32_t word) {
+    enum { RUNS = 2 };
+    add(to, "; ", "remembered");
+    add_number(to, " ", word);
+    if (b->kind == STAIRWAY_SWITCH)
+        add(to, word % RUNS == 0 ? " (Trg 0, " : " (Trg 1, ", word >= RUNS ? "runs)" : "does not run)");
+}
+
+/* "Ta 0.50 s of 3.00 s"; of a stairway switch also "T! 1.00 s, T!L 0.20 s: dark from 2.00 s to 2.20 s". */
+static void add_times(pieces *to, const block *b, int32_t ta) {
+    const int64_t t = ticks_of(b, WHOLE_TIME);
+    add(to, "; Ta ", time_of(ta).text);
+    add(to, " of ", time_of(t).text);
+    if (b->kind != STAIRWAY_SWITCH)
+        return;
+    const int64_t warning = ticks_of(b, WARNING_TIME), dark = ticks_of(b, DARK_TIME);
+    add(to, "; T! ", time_of(warning).text);
+    add(to, ", T!L ", time_of(dark).text);
+    add(to, ": ", dark > 0 ? "dark from " : "never dark");
+    if (dark > 0) {
+        add(to, "", time_of(t - warning).text);
+        add(to, " to ", time_of(t - warning + dark).text);
     }
 }
 
@@ -98,18 +125,17 @@ static pieces memory_of(const block *b, const int32_t *words) {
     pieces memory = {0};
     if (b->retentive)
         add(&memory, "; ", "retentive");
-    if (kind_of(b->kind)->remembers) {
-        add(&memory, "; ", "remembered");
-        add_number(&memory, " ", words[1]);
-    }
-    if (is_delay(b->kind)) {
-        add(&memory, "; Ta ", time_of(words[2]).text);
-        add(&memory, " of ", time_of(ticks_of(b)).text);
+    if (kind_of(b->kind)->remembers)
+        add_remembered(&memory, b, words[1]);
+    if (has_time(b->kind)) {
+        add_times(&memory, b, words[2]);
         return memory;
     }
     if (b->kind == SHIFT_REGISTER)
         add_bits(&memory, words[2]);
-    add_parameters(&memory, b);
+    if (b->kind == UP_DOWN_COUNTER)
+        add_number(&memory, "; count ", words[2]);
+    add_parameters(&memory, b->kind == UP_DOWN_COUNTER ? ", " : "; ", b);
     return memory;
 }
 

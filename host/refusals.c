@@ -2,6 +2,8 @@
 
 #include "circuit.h"
 
+#include <inttypes.h>
+
 typedef struct {
     const char *meaning, *cure;
 } words;
@@ -15,13 +17,14 @@ static const words refusals[] = {
     [SERIFDOVE_NUMBER_OF_BLOCKS] = {"the header says more than 400 blocks, or there are more or fewer blocks than it says",
                                     "let the header's number be the number of blocks, at most 400"},
     [SERIFDOVE_KIND_OR_OPTION] = {"the block's kind is unknown, or its option is not allowed",
-                                  "kinds are 1 to 16, and only kinds 9 to 12 may be retentive"},
+                                  "kinds are " ALL_KINDS ", and only kinds " RETENTIVE_KINDS " may be retentive"},
     [SERIFDOVE_CONNECTOR] = {"a connector is not allowed there",
                              "look at its class, its number, its inversion, and whether the block that it names is digital or analog"},
     [SERIFDOVE_OWN_OR_LATER_BLOCK] = {"the block names itself or a later block",
                                       "let it name an earlier block, or take the value over a flag"},
-    [SERIFDOVE_PARAMETER] = {"a parameter is out of range",
-                             "compare the block's parameters with their ranges (docs/OPERATING.md, Limits; of rows: docs/ROWS.md)"},
+    [SERIFDOVE_PARAMETER] = {"a parameter is out of range, or times are not in order",
+                             "compare the block's parameters with their ranges (docs/OPERATING.md, Limits; of rows: docs/ROWS.md); of a "
+                             "stairway switch T!L is at most T!, and T! at most T"},
     [SERIFDOVE_DESTINATION] = {"the row's destination is unknown or used twice",
                                "there are Q1 to Q20, M1 to M64, AQ1 to AQ8 and AM1 to AM64; give each one row at most"},
     [SERIFDOVE_INDEX_USED_TWICE] = {"the shift register's index is used twice", "give each shift register an index of its own, 1 to 4"},
@@ -129,6 +132,17 @@ static void tell_tag_or_length(FILE *to, const uint8_t *field, size_t place) {
         fprintf(to, "  It is out of place: %s.\n", place == 0 ? "a circuit begins with its header" : fields[sort].place);
 }
 
+/* Which part of refusal 8 holds of the block that begins here; only a stairway switch has two. */
+static void tell_times(FILE *to, const uint8_t *field) {
+    const kind *k = kind_of(field[FIELD_HEAD]);
+    if (field[FIELD_HEAD] != STAIRWAY_SWITCH)
+        return;
+    const int32_t t = parameter_at(field, k, WHOLE_TIME), warning = parameter_at(field, k, WARNING_TIME),
+                  dark = parameter_at(field, k, DARK_TIME);
+    fprintf(to, "  Its times are T %" PRId32 ", T! %" PRId32 ", T!L %" PRId32 ": %s.\n", t, warning, dark,
+            dark <= warning && warning <= t ? "in order, so a parameter is out of range" : "not T!L <= T! <= T");
+}
+
 /* One line of hexadecimal bytes, and below it a mark if the place stands in it. */
 static void print_hex_line(FILE *to, const uint8_t *bytes, size_t from, size_t end, size_t place, bool is_last) {
     fprintf(to, "  %6zu ", from);
@@ -154,6 +168,8 @@ void tell_refused_circuit(FILE *to, serifdove_answer answer, const uint8_t *byte
         tell_field(to, bytes, length, answer.place);
     if (answer.number == SERIFDOVE_TAG_OR_LENGTH)
         tell_tag_or_length(to, bytes + answer.place, answer.place);
+    if (answer.number == SERIFDOVE_PARAMETER)
+        tell_times(to, bytes + answer.place);
     print_bytes_around(to, bytes, length, answer.place);
     fprintf(to, "  What to do: %s.\n", refusal_cure(answer.number));
 }

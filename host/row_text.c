@@ -407,8 +407,8 @@ static const struct {
     [QUOTE_INSIDE] = {false, "a quote stands in it; expected is a cell in quotes, with two quotes for one"},
     [EMPTY_ROW] = {false, "it is empty; expected is a block or an output row, and no blank line"},
     [TAG_UNKNOWN] = {true, " is no tag; expected is 16 for a block or 48 for an output row"},
-    [KIND_MISSING] = {false, "it ends behind its tag; expected is a kind, 1 to 16, and the cells of that kind"},
-    [KIND_UNKNOWN] = {true, " is no kind; expected is 1 to 16"},
+    [KIND_MISSING] = {false, "it ends behind its tag; expected is a kind, " ALL_KINDS ", and the cells of that kind"},
+    [KIND_UNKNOWN] = {true, " is no kind; expected is " ALL_KINDS},
     [MARK_UNKNOWN] = {true, " is no mark; expected is 1 and a label, or 0 and an empty cell"},
     [LABEL_WITHOUT_MARK] = {true, " stands behind mark 0; expected is an empty cell, or mark 1"},
 };
@@ -711,6 +711,12 @@ static size_t refused_part(serifdove_answer answer, const uint8_t *bytes, size_t
     return found;
 }
 
+/* Whether this parameter is T! of a stairway switch and above its T, or T!L and above T!. */
+static bool is_above_the_time_before(const uint8_t *field, const kind *k, size_t parameter) {
+    return field[FIELD_HEAD] == STAIRWAY_SWITCH && parameter >= WARNING_TIME &&
+           parameter_at(field, k, parameter) > parameter_at(field, k, parameter - 1);
+}
+
 static cells refused_cells_of_block(serifdove_answer answer, const uint8_t *bytes, size_t length, const kind *k) {
     const size_t inputs = count_of(k->inputs), parameters = CELLS_BEFORE_INPUTS + 2 * inputs + 1;
     size_t part;
@@ -724,8 +730,10 @@ static cells refused_cells_of_block(serifdove_answer answer, const uint8_t *byte
     }
     if (part == inputs + count_of(k->parameters))
         return (cells){0, 0};
-    const size_t first = part < inputs ? CELLS_BEFORE_INPUTS + 2 * part + 1 : parameters + part - inputs;
-    return (cells){first, first + (part < inputs)};
+    if (part < inputs)
+        return (cells){CELLS_BEFORE_INPUTS + 2 * part + 1, CELLS_BEFORE_INPUTS + 2 * part + 2};
+    const size_t last = parameters + part - inputs;
+    return (cells){last - is_above_the_time_before(bytes + answer.place, k, part - inputs), last};
 }
 
 /* The cells that check's refusal of this field is about. */
@@ -737,17 +745,32 @@ static cells refused_cells(serifdove_answer answer, const uint8_t *bytes, size_t
                                                   : (cells){0, 0};
 }
 
-/* The range of a parameter, by its name. */
-static const char *range_of(const char *name) {
-    static const char *const ranges[][2] = {{"base", "0 to 2"},          {"T", "0 to 9999 with base 0, else 0 to 5999"},
-                                            {"index", "1 to 4"},         {"bit", "1 to 8"},
-                                            {"A", "-1000 to 1000"},      {"B", "-10000 to 10000"},
-                                            {"On", "-20000 to 20000"},   {"Off", "-20000 to 20000"},
+/* The range of a parameter, by its name; that of a counter's thresholds is its own. */
+static const char *range_of(unsigned kind_number, const char *name) {
+    static const char *const ranges[][2] = {{"base", "0 to 2"},
+                                            {"T", "0 to 9999 with base 0, else 0 to 5999"},
+                                            {"T!", "0 to T"},
+                                            {"T!L", "0 to T!"},
+                                            {"index", "1 to 4"},
+                                            {"bit", "1 to 8"},
+                                            {"A", "-1000 to 1000"},
+                                            {"B", "-10000 to 10000"},
+                                            {"On", "-20000 to 20000"},
+                                            {"Off", "-20000 to 20000"},
                                             {"Delta", "-20000 to 20000"}};
+    if (kind_number == UP_DOWN_COUNTER)
+        return "0 to 999999";
     for (size_t i = 0; i < sizeof ranges / sizeof *ranges; i++)
         if (strcmp(ranges[i][0], name) == 0)
             return ranges[i][1];
     return "-32768 to 32767";
+}
+
+/* What check expects of a parameter; of two times which must not be the longer one. */
+static const char *expected_number(unsigned kind_number, cells c, const column *first) {
+    if (c.first == c.last)
+        return range_of(kind_number, first->name);
+    return strcmp(first->name, "T") == 0 ? "a T! of at most T" : "a T!L of at most T!";
 }
 
 /* The connectors that an input takes, or an output row to this class of destination. */
@@ -765,13 +788,13 @@ static const char *connectors_of(const kind *k, size_t input, unsigned destinati
 static const char *expected_in(serifdove_answer answer, const uint8_t *field, const kind *k, cells c, const column *first) {
     switch (answer.number) {
     case SERIFDOVE_KIND_OR_OPTION:
-        return "0, or for kinds 9 to 12 also 1: retentive";
+        return "0, or for kinds " RETENTIVE_KINDS " also 1: retentive";
     case SERIFDOVE_CONNECTOR:
         return connectors_of(k, (c.first - CELLS_BEFORE_INPUTS - 1) / 2, field[FIELD_HEAD]);
     case SERIFDOVE_OWN_OR_LATER_BLOCK:
         return "the number of an earlier block";
     case SERIFDOVE_PARAMETER:
-        return range_of(first->name);
+        return expected_number(field[FIELD_HEAD], c, first);
     case SERIFDOVE_DESTINATION:
         return "a destination that docs/ROWS.md has, and no earlier row";
     default:

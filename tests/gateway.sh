@@ -74,6 +74,8 @@ refuses 2 0 "02${good#01}" 'There begins no field that is known (tag 02)'
 refuses 2 0 "$block${good#$head}" 'It is out of place: a circuit begins with its header.'
 refuses 2 0 "0100040100017f$end" 'Its length is wrong: a header has 3 bytes.'
 refuses 2 6 "${head}10000d01000100010100020000000000$end" 'Its length is wrong: kind 1, AND, has 14 bytes.'
+refuses 2 6 "${head}100012110000000000000000000000000300000002$end" 'Its length is wrong: kind 17, up/down counter, has 19 bytes.'
+refuses 2 6 "${head}1000141200000000000000000000000600000003000000$end" 'Its length is wrong: kind 18, stairway switch, has 21 bytes.'
 refuses 2 6 "${head}100000$end" 'Its length is wrong: a block has a kind.'
 refuses 2 23 "$head${block}200011$(printf '41%.0s' {1..17})$end" 'Its length is wrong: a label has at most 16 bytes.'
 refuses 2 27 "$head${block}20000141200000$end" 'It is out of place: a label stands behind its block, one at most.'
@@ -85,10 +87,16 @@ refuses 1 32 "010003010001${block}2000061111111111117f" 'There begins an end fie
 refuses 1 32 "010003010001${block}200006111111111111" 'The bytes end here, after 32 of them.'
 refuses 3 0 "01000302${good#01000301}" 'the version is not 1'
 refuses 4 23 "010003010002${good#$head}" 'There begins a row (tag 30), content of 5 bytes.'
-refuses 5 6 "${head}10000e11${good#${head}10000e01}" 'kinds are 1 to 16'
+refuses 5 6 "${head}10000e14${good#${head}10000e01}" 'kinds are 1 to 18, and only kinds 9 to 12, 17 and 18 may be retentive'
 refuses 6 6 "${head}10000e0100060002${good#${head}10000e0100010001}" 'a connector is not allowed there'
 refuses 7 6 "${head}10000e0100060001${good#${head}10000e0100010001}" '       0  01 00 03 01 00 01 10 00 0e 01 00 06 00 01 01 00'
-refuses 8 6 "${head}10000d09000100010000000300000000$end" 'a parameter is out of range'
+refuses 8 6 "${head}10000d09000100010000000300000000$end" 'a parameter is out of range, or times are not in order'
+! grep -q 'Its times' "$work/err" || wrong "an on-delay has three times: $(cat "$work/err")"
+stairs=100015120001000100000000
+refuses 8 6 "$head${stairs}000000050000000600000002$end" 'Its times are T 5, T! 6, T!L 2: not T!L <= T! <= T.'
+refuses 8 6 "$head${stairs}000000050000000300000004$end" 'Its times are T 5, T! 3, T!L 4: not T!L <= T! <= T.'
+refuses 8 6 "$head${stairs}000027100000000600000002$end" 'Its times are T 10000, T! 6, T!L 2: in order, so a parameter is out of range.'
+refuses 8 6 "$head${stairs}00000005ffffffffffffffff$end" 'Its times are T 5, T! -1, T!L -1: in order, so a parameter is out of range.'
 refuses 9 31 "$head$block${row}0001${row}0001$end" 'there are Q1 to Q20, M1 to M64, AQ1 to AQ8 and AM1 to AM64; give each one row at most'
 register=1000130c000000000000000000000000000100000001
 refuses 10 28 "010003010002$register$register$end" 'give each shift register an index of its own'
@@ -204,6 +212,224 @@ says 0 yard --turn 2 <"$work/yard.script"
 sed 's/$/\r/' "$work/yard.script" >"$work/yard.crlf"
 says 0 yard --turn 2 --script yard.crlf </dev/null
 echo "gateway: a dialogue of $(grep -c '^[a-z]' "$work/yard.script") commands, as worked out by hand"
+
+# ---- up/down counters and stairway switches, worked out by hand: what look tells of their words
+cat >"$work/tower.csv" <<'END'
+16,17,1,1,3,1,1,1,2,3,2,1,pallets
+16,18,1,1,4,0,600,300,200,1,stairs
+16,18,0,1,5,2,5999,0,0,1,gate
+16,17,0,0,0,1,1,0,0,0,999999,0,
+48,1,1,6,1
+48,1,2,6,2
+48,1,3,6,3
+END
+make_circuit "$work/tower.csv" "$work/tower"
+cat >"$work/tower.script" <<'END'
+set I1 1 I4 1 I5 1
+scan 0
+set I1 0 I4 0
+scan 1s
+set I1 1
+latch 3s
+run 2
+look
+run
+publish
+set I1 0
+scan 2s
+set I1 1
+scan 99
+set I1 0 I2 1
+scan 1
+set I1 1
+scan 1
+look 1 2
+save tower.record
+warm
+set I3 1
+scan 1
+look 1
+END
+cat >"$work/expected" <<'END'
+circuit: tower, 151 bytes, 4 blocks, 3 rows; cold start
+set: I1 1, I4 1, I5 1
+scan 1 of 1: e 0 (0.00 s), 1 turn; Q2 1, Q3 1; changed: Q2 0 -> 1, Q3 0 -> 1
+set: I5 1
+scan 1 of 1: e 100 (1.00 s), 1 turn; Q2 1, Q3 1; nothing changed
+set: I1 1, I5 1
+latch: e 300 (3.00 s); I1 1, I5 1
+run: 2 blocks worked out, 2 to go
+phase    in a scan, 2 of 4 blocks done, e 300 (3.00 s)
+inputs   I1 1, I5 1 (as latched)
+M        all 0 (change at publish)
+AM       all 0 (change at publish)
+outputs  Q2 1, Q3 1 (as published)
+block  label             kind                  inputs                      output
+    1  pallets           up/down counter       R I3 0, Cnt I1 1, Dir I2 0       0  retentive; remembered 1; count 2, On 3, Off 2
+    2  stairs            stairway switch       Trg I4 0                         0  retentive; remembered 2 (Trg 0, runs); Ta 3.00 s of 6.00 s; T! 3.00 s, T!L 2.00 s: dark from 3.00 s to 5.00 s
+====>  the scan stands here, before block 3: 2 done, 2 to go, which show their words from before this scan
+    3  gate              stairway switch       Trg I5 1                         1  remembered 3 (Trg 1, runs); Ta 0.00 s of 99:59:00.00 h; T! 0.00 s, T!L 0.00 s: never dark
+    4                    up/down counter       R - 0, Cnt I1 1, Dir - 0         1  remembered 0; count 1, On 0, Off 999999
+run: 2 blocks worked out, 0 to go
+publish: Q3 1; changed: Q2 1 -> 0
+set: I5 1
+scan 1 of 1: e 200 (2.00 s), 1 turn; Q2 1, Q3 1; changed: Q2 0 -> 1
+set: I1 1, I5 1
+scan 1 of 1: e 99 (0.99 s), 1 turn; Q1 1, Q2 1, Q3 1; changed: Q1 0 -> 1
+set: I2 1, I5 1
+scan 1 of 1: e 1 (0.01 s), 1 turn; Q1 1, Q3 1; changed: Q2 1 -> 0
+set: I1 1, I2 1, I5 1
+scan 1 of 1: e 1 (0.01 s), 1 turn; Q1 1, Q3 1; nothing changed
+phase    waiting
+inputs   I1 1, I2 1, I5 1 (as latched)
+M        all 0 (for the next scan; the blocks saw those before)
+AM       all 0 (for the next scan; the blocks saw those before)
+outputs  Q1 1, Q3 1 (as published)
+block  label             kind                  inputs                      output
+    1  pallets           up/down counter       R I3 0, Cnt I1 1, Dir I2 1       1  retentive; remembered 1; count 2, On 3, Off 2
+    2  stairs            stairway switch       Trg I4 0                         0  retentive; remembered 0 (Trg 0, does not run); Ta 0.00 s of 6.00 s; T! 3.00 s, T!L 2.00 s: dark from 3.00 s to 5.00 s
+save: tower.record
+warm: begun anew, retentive blocks kept
+set: I1 1, I2 1, I3 1, I5 1
+scan 1 of 1: e 1 (0.01 s), 1 turn; Q3 1; changed: Q1 1 -> 0
+phase    waiting
+inputs   I1 1, I2 1, I3 1, I5 1 (as latched)
+M        all 0 (for the next scan; the blocks saw those before)
+AM       all 0 (for the next scan; the blocks saw those before)
+outputs  Q3 1 (as published)
+block  label             kind                  inputs                      output
+    1  pallets           up/down counter       R I3 1, Cnt I1 1, Dir I2 1       0  retentive; remembered 1; count 0, On 3, Off 2
+END
+printf '' >"$work/complaints"
+says 0 tower --script tower.script </dev/null
+
+# Records that no scan leaves here. The first is sound: the counter stands below its upper stop, and the stairway switch remembers Trg 1 and
+# does not run. In the others a word of the one or the other is out of its range.
+# forge FILE PLACE=WORD ..: the record with these words in these places, from 0
+forge() {
+    python3 - "$work/tower.record" "$work/$1" "${@:2}" <<'END' || exit 1
+import sys, zlib
+lines = open(sys.argv[1]).read().split("\n")
+words = lines[2].split(" ")
+for place, word in (pair.split("=") for pair in sys.argv[3:]):
+    words[2 + int(place)] = word
+head = "\n".join(lines[:2] + [" ".join(words)]) + "\n"
+open(sys.argv[2], "w").write(head + f"sum {zlib.crc32(head.encode()):08x}\n")
+END
+}
+forge sound.record 165=0 166=999998 168=1
+cat >"$work/sound.script" <<'END'
+load sound.record
+set I1 1 I4 1
+scan 0
+look 1 2
+set I1 0 I4 0
+scan 0
+set I1 1 I4 1
+scan 0
+look 1 2
+END
+cat >"$work/expected" <<'END'
+circuit: tower, 151 bytes, 4 blocks, 3 rows; cold start
+load: sound.record, waiting
+set: I1 1, I4 1
+scan 1 of 1: e 0 (0.00 s), 1 turn; Q1 1, Q3 1; changed: Q1 0 -> 1, Q3 0 -> 1
+phase    waiting
+inputs   I1 1, I4 1 (as latched)
+M        all 0 (for the next scan; the blocks saw those before)
+AM       all 0 (for the next scan; the blocks saw those before)
+outputs  Q1 1, Q3 1 (as published)
+block  label             kind                  inputs                      output
+    1  pallets           up/down counter       R I3 0, Cnt I1 1, Dir I2 0       1  retentive; remembered 1; count 999999, On 3, Off 2
+    2  stairs            stairway switch       Trg I4 1                         0  retentive; remembered 1 (Trg 1, does not run); Ta 0.00 s of 6.00 s; T! 3.00 s, T!L 2.00 s: dark from 3.00 s to 5.00 s
+set: all inputs 0
+scan 1 of 1: e 0 (0.00 s), 1 turn; Q1 1, Q3 1; nothing changed
+set: I1 1, I4 1
+scan 1 of 1: e 0 (0.00 s), 1 turn; Q1 1, Q2 1, Q3 1; changed: Q2 0 -> 1
+phase    waiting
+inputs   I1 1, I4 1 (as latched)
+M        all 0 (for the next scan; the blocks saw those before)
+AM       all 0 (for the next scan; the blocks saw those before)
+outputs  Q1 1, Q2 1, Q3 1 (as published)
+block  label             kind                  inputs                      output
+    1  pallets           up/down counter       R I3 0, Cnt I1 1, Dir I2 0       1  retentive; remembered 1; count 999999, On 3, Off 2
+    2  stairs            stairway switch       Trg I4 1                         1  retentive; remembered 3 (Trg 1, runs); Ta 0.00 s of 6.00 s; T! 3.00 s, T!L 2.00 s: dark from 3.00 s to 5.00 s
+END
+says 0 tower --script sound.script </dev/null
+for word in 165=2 166=1000000 166=-1 167=2 168=4 169=601; do
+    forge unsound.record $word
+    echo 'load unsound.record' | (cd "$work" && run "$here/$gateway" tower) >"$work/out" 2>"$work/err"
+    [ $? -eq 1 ] && grep -q 'unsound.record holds a record that is not sound for this circuit' "$work/err" || wrong "a record with $word is loaded: $(cat "$work/out" "$work/err")"
+done
+# the same kinds, retentive and not, behind a warm start: with Cnt 1 and Trg 0 before and now, then with Cnt 0 and Trg 1
+cat >"$work/cut.csv" <<'END'
+16,17,1,0,0,1,1,0,0,2,1,1,kept
+16,17,0,0,0,1,1,0,0,2,1,1,lost
+16,17,0,0,0,1,1,0,0,0,5,1,low
+16,18,1,1,2,0,600,300,200,1,light
+16,18,0,1,2,0,600,300,200,1,dark
+48,1,1,6,1
+48,1,2,6,2
+48,1,3,6,3
+48,1,4,6,4
+48,1,5,6,5
+END
+make_circuit "$work/cut.csv" "$work/cut"
+cat >"$work/cut.script" <<'END'
+set I1 1 I2 1
+scan 0
+set I1 0 I2 0
+scan 1
+set I1 1
+scan 2s
+warm
+scan 1s
+look
+set I1 0 I2 1
+scan 1s
+warm
+scan 1s
+look
+END
+cat >"$work/expected" <<'END'
+circuit: cut, 198 bytes, 5 blocks, 5 rows; cold start
+set: I1 1, I2 1
+scan 1 of 1: e 0 (0.00 s), 1 turn; Q3 1, Q4 1, Q5 1; changed: Q3 0 -> 1, Q4 0 -> 1, Q5 0 -> 1
+set: all inputs 0
+scan 1 of 1: e 1 (0.01 s), 1 turn; Q3 1, Q4 1, Q5 1; nothing changed
+set: I1 1
+scan 1 of 1: e 200 (2.00 s), 1 turn; Q1 1, Q2 1, Q3 1, Q4 1, Q5 1; changed: Q1 0 -> 1, Q2 0 -> 1
+warm: begun anew, retentive blocks kept
+scan 1 of 1: e 100 (1.00 s), 1 turn; Q1 1, Q3 1; changed: Q2 1 -> 0, Q4 1 -> 0, Q5 1 -> 0
+phase    waiting
+inputs   I1 1 (as latched)
+M        all 0 (for the next scan; the blocks saw those before)
+AM       all 0 (for the next scan; the blocks saw those before)
+outputs  Q1 1, Q3 1 (as published)
+block  label             kind                  inputs                    output
+    1  kept              up/down counter       R - 0, Cnt I1 1, Dir - 0       1  retentive; remembered 1; count 2, On 2, Off 1
+    2  lost              up/down counter       R - 0, Cnt I1 1, Dir - 0       0  remembered 1; count 1, On 2, Off 1
+    3  low               up/down counter       R - 0, Cnt I1 1, Dir - 0       1  remembered 1; count 1, On 0, Off 5
+    4  light             stairway switch       Trg I2 0                       0  retentive; remembered 2 (Trg 0, runs); Ta 3.00 s of 6.00 s; T! 3.00 s, T!L 2.00 s: dark from 3.00 s to 5.00 s
+    5  dark              stairway switch       Trg I2 0                       0  remembered 0 (Trg 0, does not run); Ta 0.00 s of 6.00 s; T! 3.00 s, T!L 2.00 s: dark from 3.00 s to 5.00 s
+set: I2 1
+scan 1 of 1: e 100 (1.00 s), 1 turn; Q1 1, Q3 1, Q4 1, Q5 1; changed: Q4 0 -> 1, Q5 0 -> 1
+warm: begun anew, retentive blocks kept
+scan 1 of 1: e 100 (1.00 s), 1 turn; Q1 1, Q3 1, Q4 1, Q5 1; nothing changed
+phase    waiting
+inputs   I2 1 (as latched)
+M        all 0 (for the next scan; the blocks saw those before)
+AM       all 0 (for the next scan; the blocks saw those before)
+outputs  Q1 1, Q3 1, Q4 1, Q5 1 (as published)
+block  label             kind                  inputs                    output
+    1  kept              up/down counter       R - 0, Cnt I1 0, Dir - 0       1  retentive; remembered 0; count 2, On 2, Off 1
+    2  lost              up/down counter       R - 0, Cnt I1 0, Dir - 0       0  remembered 0; count 0, On 2, Off 1
+    3  low               up/down counter       R - 0, Cnt I1 0, Dir - 0       1  remembered 0; count 0, On 0, Off 5
+    4  light             stairway switch       Trg I2 1                       1  retentive; remembered 3 (Trg 1, runs); Ta 0.00 s of 6.00 s; T! 3.00 s, T!L 2.00 s: dark from 3.00 s to 5.00 s
+    5  dark              stairway switch       Trg I2 1                       1  remembered 3 (Trg 1, runs); Ta 0.00 s of 6.00 s; T! 3.00 s, T!L 2.00 s: dark from 3.00 s to 5.00 s
+END
+says 0 cut --script cut.script </dev/null
+echo "gateway: counters and stairway switches, as worked out by hand"
 
 # ---- every bad command: told with its line, and nothing else happens
 cat >"$work/bad.script" <<'END'

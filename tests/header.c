@@ -19,7 +19,7 @@ static_assert(SERIFDOVE_AI(1) == 28 && SERIFDOVE_AI(7 + 1) == 35, "AI");
 static_assert(SERIFDOVE_M(1) == 36 && SERIFDOVE_M(63 + 1) == 99, "M");
 static_assert(SERIFDOVE_AM(1) == 100 && SERIFDOVE_AM(63 + 1) == 163, "AM");
 static_assert(SERIFDOVE_BLOCK_OUTPUT(1) == 164 && SERIFDOVE_BLOCK_OUTPUT(1 + 1) == 167, "output");
-static_assert(SERIFDOVE_BLOCK_REMEMBERED(1) == 165 && SERIFDOVE_BLOCK_REMEMBERED(1 + 1) == 168, "remembered bit");
+static_assert(SERIFDOVE_BLOCK_REMEMBERED(1) == 165 && SERIFDOVE_BLOCK_REMEMBERED(1 + 1) == 168, "remembered word");
 static_assert(SERIFDOVE_BLOCK_NUMBER(1) == 166 && SERIFDOVE_BLOCK_NUMBER(399 + 1) == 1363, "number");
 static_assert(SERIFDOVE_INPUT_I(1) == 0 && SERIFDOVE_INPUT_I(23 + 1) == 23, "I among the inputs");
 static_assert(SERIFDOVE_INPUT_AI(1) == 24 && SERIFDOVE_INPUT_AI(7 + 1) == 31, "AI among the inputs");

@@ -189,25 +189,53 @@ def draw_legend(canvas, y, notes, remarks):
     return y
 
 
-# ---- delays: one block over scans, along the time that e tells
+# ---- one block over scans, along the time that e tells
 
-# The kind, what the picture is called, the names of the block's inputs, the levels of Ta by its parameters, and the notes: each on the span
-# from one scan to another, counted from 1.
-Delay = namedtuple("Delay", "kind title inputs levels notes")
+# The kind, what the picture is called by the block's parameters, the names of its inputs, what its number is, the levels of that by the
+# parameters, the notes, each on the span from one scan to another, counted from 1, and remarks.
+Scans = namedtuple("Scans", "kind title inputs number levels notes remarks", defaults=((),))
 ScansNote = namedtuple("ScansNote", "start end text")
 
-DELAYS = {
-    "on_delay": Delay(9, "On-delay", ("Trg",), lambda base, t: [("T", ticks(base, t))], (
+
+def timed(base, **settings):
+    """The times by their names."""
+    return ", ".join(f"{name} {ticks(base, setting)} ticks ({ticks(base, setting) / 100:.2f} s)" for name, setting in settings.items())
+
+
+def levels_of_t(base, t):
+    return [("T", ticks(base, t))]
+
+
+def levels_of_warning(base, t, warning, dark):
+    return levels_of_t(base, t) + [("lit", ticks(base, t - warning + dark)), ("dark", ticks(base, t - warning))]
+
+
+SCANS = {
+    "on_delay": Scans(9, lambda base, t: "On-delay, " + timed(base, T=t), ("Trg",), "Ta", levels_of_t, (
         ScansNote(3, 6, "Trg is 1 for less than T: Ta goes back to 0, Q stays 0."),
         ScansNote(8, 12, "Trg falls for one scan and rises again: the time begins anew. In the scan of a rise e is not added."),
         ScansNote(12, 18, "Trg stays 1 for T: Q is 1 when Ta is T, and 0 when Trg falls."),
         ScansNote(20, 24, "A long scan, e 55: Ta goes to T and not beyond."))),
-    "off_delay": Delay(10, "Off-delay", ("Trg", "R"), lambda base, t: [("T", ticks(base, t))], (
+    "off_delay": Scans(10, lambda base, t: "Off-delay, " + timed(base, T=t), ("Trg", "R"), "Ta", levels_of_t, (
         ScansNote(2, 8, "Trg is 1 for less than T: Q is 1 at once, and for T from the fall on. When T is reached, Q and Ta are 0."),
         ScansNote(10, 18, "Trg comes again before T is reached: the time begins anew at its fall."),
         ScansNote(18, 19, "R ends it: Q and Ta are 0."),
         ScansNote(20, 23, "Trg held while R comes and goes: Q is 1, 0, and 1 again."),
         ScansNote(23, 25, "A long scan, e 55, is beyond T: Q and Ta are 0."))),
+    "up_down_counter": Scans(17, lambda on, off: f"Up/down counter, On {on}, Off {off}", ("R", "Cnt", "Dir"), "the count",
+                             lambda on, off: [("On", on), ("Off", off)], (
+        ScansNote(2, 11, "A rise of Cnt counts one, however long Cnt stays 1. From On up Q1 is 1."),
+        ScansNote(11, 17, "With Dir 1 a rise takes one. Q1 stays 1 down to Off, and is 0 below it."),
+        ScansNote(17, 21, "The count stops at 0: a rise with Dir 1 is lost there."),
+        ScansNote(25, 28, "R: the count is 0, and Q is what that count gives. A rise under R is lost, though Cnt stays 1 behind it.")), (
+        "Q1: On 4, Off 2. Q2: a second counter of the same inputs, On 0, Off 2, which is 1 at counts of 0 and 1.",)),
+    "stairway_switch": Scans(18, lambda base, t, warning, dark: "Stairway switch, " + timed(base, **{"T": t, "T!": warning, "T!L": dark}), ("Trg",), "Ta",
+                             levels_of_warning, (
+        ScansNote(2, 11, "A rise lights it. From the fall on Ta grows; T! before the end it is dark for T!L, and at T it is out."),
+        ScansNote(12, 18, "Trg comes in the dark: Q is 1 at once, and the time begins anew at its fall."),
+        ScansNote(20, 24, "Trg comes in the light and stays 1: Q is 1 and Ta is 0 as long, and it is never dark."),
+        ScansNote(24, 27, "A long scan, e 55, steps over the dark time. The next one reaches T.")), (
+        "It is dark while Ta is from T - T!, which is 30, to below T - T! + T!L, which is 50.",)),
 }
 
 
@@ -238,36 +266,43 @@ def draw_time(canvas, y, times, x_of):
     return y + 22 + 16
 
 
-def draw_delay(name, folder):
-    delay = DELAYS[name]
+def rows_of_scans(picture, circuit, scans):
+    """The inputs of the first block of the picture's kind, its number, and what every block of the kind shows."""
+    own = {k: block for k, block in enumerate(blocks_of(circuit), 1) if block.kind == picture.kind}
+    first, block = next(iter(own.items()))
+    levels = picture.levels(*block.parameters)
+    numbers = [record[number_word(first)] for _, record, _ in scans]
+    rows = [Row(f"{named} (I{connector[1]})", [value_of(connector, record) for _, record, _ in scans], READ)
+            for named, connector in zip(picture.inputs, block.connectors)]
+    rows.append(Row(picture.number, numbers, INNER, max([level for _, level in levels] + numbers), 84,
+                    [("0", 0)] + [(f"{named} {level}", level) for named, level in levels], True))
+    rows += [Row(f"Q{q}, published", [outputs[q - 1] for _, _, outputs in scans], SHOWN)
+             for q, (cls, number) in q_rows(circuit) if cls == DIGITAL_BLOCK and number in own]
+    return picture.title(*block.parameters), rows
+
+
+def draw_scans_of_block(name, folder):
+    picture = SCANS[name]
     circuit, calls = read_trace(name)
     scans = scans_of(calls)
-    k, block = next((k, block) for k, block in enumerate(blocks_of(circuit), 1) if block.kind == delay.kind)
-    levels = delay.levels(*block.parameters)
-    rows = [Row(f"{named} (I{connector[1]})", [value_of(connector, record) for _, record, _ in scans], READ)
-            for named, connector in zip(delay.inputs, block.connectors)]
-    rows.append(Row("Ta", [record[number_word(k)] for _, record, _ in scans], INNER, max(ticks for _, ticks in levels), 84,
-                    [("0", 0)] + [(f"{named} {ticks}", ticks) for named, ticks in levels], True))
-    rows += [Row(f"Q{q}, published", [outputs[q - 1] for _, _, outputs in scans], SHOWN) for q, connector in q_rows(circuit) if connector == (DIGITAL_BLOCK, k)]
-
+    title, rows = rows_of_scans(picture, circuit, scans)
     times = times_of(scans)
 
     def x_of(time):
         return LEFT + time * (RIGHT - LEFT) / times[-1]
 
     edges = [x_of(time) for time in times]
-    title = f"{delay.title}, " + ", ".join(f"{named} {ticks} ticks ({ticks / 100:.2f} s)" for named, ticks in levels)
     canvas = Canvas()
     canvas.text(MARGIN, 26, title, WIDTH - 2 * MARGIN, size=15, weight="bold")
     top = 40
     bottom = top + 18 + height_of(rows)
-    draw_bands(canvas, top, bottom, [(edges[note.start - 1], edges[note.end - 1]) for note in delay.notes])
+    draw_bands(canvas, top, bottom, [(edges[note.start - 1], edges[note.end - 1]) for note in picture.notes])
     for x in edges[:-1]:
         canvas.line([(x, top + 18), (x, bottom)], GRID, 0.6)
     draw_rows(canvas, top + 18, edges, rows)
     y = draw_time(canvas, bottom, times, x_of)
-    y = draw_legend(canvas, y + 26, [note.text for note in delay.notes],
-                    ["Each scan stands at the time of its latch, by the sum of e. A dot is Ta as that scan left it."])
+    y = draw_legend(canvas, y + 26, [note.text for note in picture.notes],
+                    [*picture.remarks, f"Each scan stands at the time of its latch, by the sum of e. A dot is {picture.number} as that scan left it."])
     canvas.save(os.path.join(folder, name + ".svg"), title, y)
 
 
@@ -364,14 +399,14 @@ def draw_turns(name, folder):
 
 def main():
     if sys.argv[1:] == ["--names"]:
-        print("\n".join([*TURNS, *DELAYS]))
+        print("\n".join([*TURNS, *SCANS]))
         return
     if len(sys.argv) != 2 or not os.path.isdir(sys.argv[1]):
         sys.exit("usage: pictures.py FOLDER | --names")
     for name in TURNS:
         draw_turns(name, sys.argv[1])
-    for name in DELAYS:
-        draw_delay(name, sys.argv[1])
+    for name in SCANS:
+        draw_scans_of_block(name, sys.argv[1])
 
 
 if __name__ == "__main__":

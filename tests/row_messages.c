@@ -12,7 +12,7 @@
 #include <stdlib.h>
 #include <string.h>
 
-enum { MOST_TEXT = 700, ROOM = 65536, LONGEST_LINE = 420, KINDS = 16 };
+enum { MOST_TEXT = 700, ROOM = 65536, LONGEST_LINE = 420, KINDS = 18 };
 
 static uint64_t state;
 static unsigned below(unsigned limit) {
@@ -41,6 +41,8 @@ static const char *const good_rows[] = {
     "16,13,0,7,1,-100,10,500,-500,1,level",
     "16,15,0,3,0,1,1,1,2,-32768,32767,0,1,0,",
     "16,12,1,1,1,1,2,0,0,1,8,1,shift",
+    "16,17,1,1,3,1,1,1,2,20,5,1,pallets",
+    "16,18,1,1,4,1,60,15,1,1,stairs",
     "48,1,1,6,1",
     "048,0003,2,9,5",
     "48,1,1,6,1,,,,",
@@ -80,7 +82,7 @@ static void make_text(void) {
     const unsigned sort = below(4), rows = below(6);
     length = 0;
     for (unsigned i = 0; i < rows && sort > 0; i++) {
-        add(good_rows[below(below(3) > 0 ? 8 : sizeof good_rows / sizeof *good_rows)]);
+        add(good_rows[below(below(3) > 0 ? 10 : sizeof good_rows / sizeof *good_rows)]);
         add(below(2) == 0 ? "\n" : "\r\n");
     }
     for (unsigned i = 0; i < below(60) && sort == 0; i++)

@@ -39,7 +39,7 @@ complains() {
 # ---- forth and back: labels of any bytes, every kind
 PYTHONPATH=tests python3 -B - "$work" <<'END' || exit 1
 import csv, sys
-from stored_circuits import block, destinations, end, header, label, not_of, row, sixteen
+from stored_circuits import block, destinations, end, header, label, not_of, one_of_each, row
 def write(name, content):
     with open(f"{sys.argv[1]}/{name}", "wb") as file:
         file.write(content)
@@ -53,7 +53,7 @@ quotes = label(b'"' * 16)
 widest = [block(15, [(0x86, 1)] * 3, [-32768] * 4)] * 396 + [block(12, [(0x86, 1)] * 3, [k, 8], 1) for k in range(1, 4)]
 rows = [row(cls, number, (0x86, 399) if cls <= 2 else (9, 397)) for cls, number in destinations]
 write("greatest.circuit", header(400) + b"".join(each + quotes for each in [not_of((1, 24))] + widest) + b"".join(rows) + end)
-write("all.circuit", header(16) + b"".join(each + label(b"") for each in sixteen) + row(1, 20, (6, 16)) + row(3, 8, (9, 15)) + end)
+write("all.circuit", header(18) + b"".join(each + label(b"") for each in one_of_each) + row(1, 20, (6, 18)) + row(3, 8, (9, 15)) + end)
 END
 cat >"$work/all.csv" <<'END'
 16,1,0,1,1,0,0,0,0,0,0,1,
@@ -72,17 +72,19 @@ cat >"$work/all.csv" <<'END'
 16,14,0,8,64,7,1,1000,-10000,-20000,20000,1,
 16,15,0,6,14,0,0,2,0,-32768,32767,0,-1,1,
 16,16,0,9,15,100,0,20000,20000,1,
-48,1,20,6,16
+16,17,1,6,16,129,2,0,0,999999,0,1,
+16,18,1,134,17,1,5999,5999,0,1,
+48,1,20,6,18
 48,3,8,9,15
 END
 printf '' >"$work/complaints"
-echo "made: $(wc -c <"$work/all.circuit") bytes, 16 blocks, 2 output rows" >"$work/expected"
+echo "made: $(wc -c <"$work/all.circuit") bytes, 18 blocks, 2 output rows" >"$work/expected"
 says 0 all.csv made
-cmp "$work/all.circuit" "$work/made" || wrong "the sixteen kinds have other bytes"
+cmp "$work/all.circuit" "$work/made" || wrong "the kinds have other bytes"
 sed 's/$/\r/' "$work/all.csv" >"$work/all.crlf"
-echo "back.CSV: $(wc -c <"$work/all.crlf") bytes, 18 rows" >"$work/expected"
+echo "back.CSV: $(wc -c <"$work/all.crlf") bytes, 20 rows" >"$work/expected"
 says 0 --back made back.CSV
-cmp "$work/all.crlf" "$work/back.CSV" || wrong "the sixteen kinds are written otherwise"
+cmp "$work/all.crlf" "$work/back.CSV" || wrong "the kinds are written otherwise"
 
 in_work $rows --back labels.circuit labels.csv || wrong "$(cat "$work/err")"
 python3 -c 'import csv, sys
@@ -232,9 +234,9 @@ tells 31 1 'What to do: take the row away, if no block stood there; blocks are n
 tells 31 1 'What to do: take the row away, if it holds headings or a remark.' 'tag,kind\n'
 tells 31 1 'What to do: compare the row with the columns of its kind (docs/ROWS.md).' '17,1,1,3,0\n'
 tells 31 1 'Cell 1, tag: `-16` is no tag' '-16,8,0,0,0,0,\n'
-tells 31 1 'The row: it ends behind its tag; expected is a kind, 1 to 16, and the cells of that kind.' '16\n'
-for kind in 0 17 256 -1 AND ''; do
-    tells 31 1 "Cell 2, kind: \`$kind\` is no kind; expected is 1 to 16." "16,$kind,0\n"
+tells 31 1 'The row: it ends behind its tag; expected is a kind, 1 to 18, and the cells of that kind.' '16\n'
+for kind in 0 20 255 256 -1 AND ''; do
+    tells 31 1 "Cell 2, kind: \`$kind\` is no kind; expected is 1 to 18." "16,$kind,0\n"
 done
 tells 31 1 'The row: it has 1 cell; expected are 5: 48, destination class' '48\n'
 tells 31 1 'The row: it has 4 cells; expected are 5: 48, destination class, destination number, connector class, connector number.' '48,1,1,6'
@@ -294,7 +296,7 @@ tells 32 2 '`y`' '48,1,1,3,0\n48,y,1,6,1\n\n'
 # what check refuses: the cells, also where others behind them are wrong, or have a higher number
 digital='class 0 to 4 or 6, or inverted 129 to 132 or 134, and a number that this class has (docs/ROWS.md, Connectors).'
 analog='class 7, 8 or 9, and a number that this class has (docs/ROWS.md, Connectors).'
-tells 5 1 'Cell 3, option: `1`; expected is 0, or for kinds 9 to 12 also 1: retentive.' '16,8,1,9,9,0,\n'
+tells 5 1 'Cell 3, option: `1`; expected is 0, or for kinds 9 to 12, 17 and 18 also 1: retentive.' '16,8,1,9,9,0,\n'
 tells 5 1 'Cell 3, option: `2`; expected is 0' '16,9,2,1,1,0,1,0,\n'
 tells 6 1 'Cells 6 and 7, input 2 class and input 2 number: `7,1`; expected is '"$digital" '16,1,0,1,1,7,1,5,0,0,0,0,\n'
 tells 6 1 'Cells 8 and 9, input 3 class and input 3 number: `"6","5"`; expected is '"$digital" '16,1,0,6,1,1,2,"6","5",0,0,0,\n'
@@ -306,6 +308,19 @@ tells 7 2 'Cells 6 and 7, R class and R number: `134,2`; expected is the number 
 tells 9 2 'Cells 2 and 3, destination class and destination number: `1,1`; expected is a destination that docs/ROWS.md has, and no earlier row.' '48,1,1,3,0\n48,1,1,3,0\n'
 tells 10 2 'Cell 10, index: `1`; expected is an index that no earlier block has, 1 to 4.' '16,12,0,0,0,0,0,0,0,1,1,0,\n16,12,0,0,0,0,0,0,0,1,1,1,x\n'
 tells 8 1 'Cell 6, base: `3`; expected is 0 to 2.' '16,9,0,1,1,3,20000,0,\n'
+# the three times of a stairway switch: the first that is out of its range, or above the one before it
+for times in 50,50,50 50,50,0 50,0,0 0,0,0 9999,9999,9999; do
+    printf '16,18,0,1,1,0,%s,0,\n' $times >"$work/good.csv"
+    in_work $rows good.csv good.circuit || wrong "the times $times are refused: $(cat "$work/err")"
+done
+tells 8 1 'or times are not in order.' '16,18,0,1,1,0,50,51,0,0,\n'
+tells 8 1 'Cells 7 and 8, T and T!: `50,51`; expected is a T! of at most T.' '16,18,0,1,1,0,50,51,52,0,\n'
+tells 8 1 'Cells 7 and 8, T and T!: `9999,10000`; expected is a T! of at most T.' '16,18,0,1,1,0,9999,10000,0,0,\n'
+tells 8 1 'Cells 8 and 9, T! and T!L: `40,"41"`; expected is a T!L of at most T!.' '16,18,0,1,1,0,50,40,"41",0,\n'
+tells 8 1 'Cell 8, T!: `-1`; expected is 0 to T.' '16,18,0,1,1,0,50,-1,0,0,\n'
+tells 8 1 'Cell 9, T!L: `-1`; expected is 0 to T!.' '16,18,0,1,1,0,50,40,-1,0,\n'
+tells 8 1 'Cell 7, T: `6000`; expected is 0 to 9999 with base 0, else 0 to 5999.' '16,18,0,1,1,1,6000,6001,6002,0,\n'
+tells 8 1 'Cell 6, base: `-1`; expected is 0 to 2.' '16,18,0,1,1,-1,5,6,7,0,\n'
 # each range as it is told: its ends are taken, what lies beside them is refused by 8 at its cell
 ranges=0
 while IFS='|' read -r cell name least greatest range row; do
@@ -331,8 +346,14 @@ done <<'END'
 9|Delta|-20000|20000|-20000 to 20000|16,16,0,7,1,0,0,0,@,0,
 10|V1|-32768|32767|-32768 to 32767|16,15,0,0,0,0,0,0,0,@,0,0,0,0,
 13|V4|-32768|32767|-32768 to 32767|16,15,0,0,0,0,0,0,0,0,0,0,@,0,
+10|On|0|999999|0 to 999999|16,17,0,0,0,1,1,0,0,@,0,0,
+11|Off|0|999999|0 to 999999|16,17,0,0,0,1,1,0,0,0,@,0,
+6|base|0|2|0 to 2|16,18,0,1,1,@,5999,5999,5999,0,
+7|T|0|9999|0 to 9999 with base 0, else 0 to 5999|16,18,0,1,1,0,@,0,0,0,
+7|T|0|5999|0 to 9999 with base 0, else 0 to 5999|16,18,0,1,1,1,@,0,0,0,
+7|T|0|5999|0 to 9999 with base 0, else 0 to 5999|16,18,0,1,1,2,@,0,0,0,
 END
-[ $ranges -eq 13 ] || wrong "$ranges ranges are tried, not 13"
+[ $ranges -eq 19 ] || wrong "$ranges ranges are tried, not 19"
 for circuit in 5:1:'16,8,1,0,0,0,' 6:1:'48,1,1,6,1' 8:1:'16,9,0,1,1,0,10000,0,' 9:2:'48,1,1,3,0\n48,1,1,3,0' 10:2:'16,12,0,0,0,0,0,0,0,1,1,0,\n16,12,0,0,0,0,0,0,0,1,1,1,x'; do
     IFS=: read -r number row text <<<"$circuit"
     tells "$number" "$row" 'the circuit of the rows in bad.csv is refused.' "$text\\n"
@@ -446,7 +467,7 @@ kinds=0
 all_kinds=
 while IFS='|' read -r _ kind name cells columns _; do
     kind=${kind// /} name=$(sed 's/^ *//; s/ *$//' <<<"$name") columns=$(sed 's/^ *//; s/ *$//' <<<"$columns")
-    text=$(sed -E 's/A[xy] class/7/g; s/[A-Za-z0-9 ]+ class/0/g; s/A[xy] number/1/g; s/[A-Za-z0-9 ]+ number/0/g; s/option|mark/0/g; s/label//; s/base|T|index|bit|On|Off|Delta|V[1-4]/1/g; s/\b[AB]\b/1/g; s/, */,/g' <<<"$columns")
+    text=$(sed -E 's/A[xy] class/7/g; s/[A-Za-z0-9 ]+ class/0/g; s/A[xy] number/1/g; s/[A-Za-z0-9 ]+ number/0/g; s/option|mark/0/g; s/label//; s/base|T!L|T!|T|index|bit|On|Off|Delta|V[1-4]/1/g; s/\b[AB]\b/1/g; s/, */,/g' <<<"$columns")
     [ -n "$kind" ] || text=48,1,1,3,0
     [ "$(tr -cd , <<<"$columns" | wc -c)" -eq $((cells - 1)) ] || wrong "$page: $name has not $cells columns"
     [ -z "$kind" ] || grep -qF "[$kind] = {\"$name\"," host/circuit.c || wrong "$page: kind $kind is not called $name"
@@ -457,9 +478,16 @@ while IFS='|' read -r _ kind name cells columns _; do
     done
     kinds=$((kinds + 1)) all_kinds+="$text\\n"
 done < <(sed -n '/^| kind | name /,/^$/p' $page | sed 1,2d | grep '^|')
-[ $kinds -eq 17 ] || wrong "$page has $kinds kinds and rows, not 17"
+[ $kinds -eq 19 ] || wrong "$page has $kinds kinds and rows, not 19"
 offers 0 "$all_kinds"
-grep -q '16 blocks, 1 output row$' "$work/out" || wrong "$page: all kinds at once: $(cat "$work/out")"
+grep -q '18 blocks, 1 output row$' "$work/out" || wrong "$page: all kinds at once: $(cat "$work/out")"
+examples=0
+while IFS='|' read -r _ row _; do
+    row=${row# \`} row=${row%\` }
+    offers 0 "$row\\n"
+    examples=$((examples + 1))
+done < <(sed -n '/^| example row | /,/^$/p' $page | sed 1,2d | grep '^|')
+[ $examples -eq 2 ] || wrong "$page has $examples example rows, not 2"
 
 # connectors: the ends of each range are taken, inverted too where that is allowed; the numbers beside them are refused
 classes=0
@@ -507,7 +535,7 @@ done < <(sed -n '/^| row | answer /,/^$/p' $page | sed 1,2d | grep '^|')
 for number in 30 31 32 33 34; do
     grep -q "^| $number | ..* | ..* |\$" $page || wrong "$page does not tell refusal $number"
 done
-echo "rows: $page, $kinds rows of columns, $exports of spreadsheet programs, $offered offered"
+echo "rows: $page, $kinds rows of columns, $examples example rows, $exports of spreadsheet programs, $offered offered"
 
 # ---- the page: its commands, in the order in which they stand, print what it shows
 mkdir -p "$work/page/target/host" || exit 2

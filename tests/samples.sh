@@ -89,10 +89,37 @@ make_circuit "$work/unused.csv" "$work/unused.circuit"
 told sorts "$work"/*.circuit
 grep -q 'unused.circuit: blocks that matter to no output: \[2\]$' "$work/differs" || differs "$work/differs" "an unused block is not told"
 
+# shows_otherwise NAME EDIT: with this edit of its rows the day shows something else
+shows_otherwise() {
+    mkdir "$work/other" || exit 2
+    sed "$2" samples/$1.csv >"$work/other/$1.csv"
+    ! cmp -s samples/$1.csv "$work/other/$1.csv" || differs "$work/other/$1.csv" "the rows are not changed"
+    make_circuit "$work/other/$1.csv" "$work/other/$1.circuit"
+    (cd "$work/other" && run "$top/$gateway" $1.circuit --script "$top/samples/$1.day") >"$work/made" 2>&1
+    told day samples/$1.expect "$work/other/$1.trace"
+    rm -r "$work/other"
+}
+
+# full a pallet later, or free a pallet earlier; a key that is not there; counts that are not kept; a dark time that is a tick shorter or begins
+# a tick later; times that are not kept
+for rule in 's/,5,3,1,"Lane/,6,3,1,"Lane/' 's/,5,3,1,"Lane/,5,4,1,"Lane/' 's/^16,17,1,1,4,/16,17,1,0,0,/' 's/^16,17,1,/16,17,0,/'; do
+    shows_otherwise bottling "$rule"
+done
+for rule in s/,1500,100,/,1500,99,/ s/,1500,100,/,1499,100,/ s/,20,2,/,20,1,/ 's/^16,18,1,/16,18,0,/'; do
+    shows_otherwise highbay "$rule"
+done
+
 # a harbour in which the open button no longer stops the motor on its way down
 sed -e 's/4,2,1,up_stop/0,0,1,up_stop/' -e 's/1,1,6,8,1,down_stop/0,0,6,8,1,down_stop/' samples/harbour.csv >"$work/unsafe.csv"
 [ "$(diff samples/harbour.csv "$work/unsafe.csv" | grep -c '^>')" -eq 2 ] || differs "$work/unsafe.csv" "the interlock is not taken out"
 make_circuit "$work/unsafe.csv" "$work/unsafe.circuit"
 walk harbour "$work/unsafe.circuit" 1
 [ $? -eq 1 ] && grep -q ' breaks: never Q1 Q2$' "$work/walked" || differs "$work/walked" "a walk does not find the missing interlock"
+
+# a lane of which one count is forgotten at a warm start, and the other is not
+sed 's/^16,17,1,\(.*nearly empty\)/16,17,0,\1/' samples/bottling.csv >"$work/forgetful.csv"
+[ "$(diff samples/bottling.csv "$work/forgetful.csv" | grep -c '^>')" -eq 1 ] || differs "$work/forgetful.csv" "both counts are kept"
+make_circuit "$work/forgetful.csv" "$work/forgetful.circuit"
+walk bottling "$work/forgetful.circuit" 1
+[ $? -eq 1 ] && grep -q ' breaks: never Q3 Q4$' "$work/walked" || differs "$work/walked" "a walk does not find the forgotten count"
 echo "samples: wrong facts are told"
