@@ -62,12 +62,13 @@ static void on_delay(int32_t *own, int32_t trg, int32_t t, int32_t e) {
 }
 
 static void off_delay(int32_t *own, int32_t trg, int32_t r, int32_t t, int32_t e) {
-    const bool fell = own[REMEMBERED] && !trg;
+    const bool rose = !own[REMEMBERED] && trg, fell = own[REMEMBERED] && !trg;
     own[REMEMBERED] = trg;
     if (r) {
         own[OUTPUT] = own[NUMBER] = 0;
     } else if (trg) {
-        own[OUTPUT] = 1;
+        if (rose)
+            own[OUTPUT] = 1;
         own[NUMBER] = 0;
     } else if (fell) {
         own[OUTPUT] = own[OUTPUT] && t > 0;

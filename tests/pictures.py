@@ -220,8 +220,9 @@ SCANS = {
         ScansNote(2, 8, "Trg is 1 for less than T: Q is 1 at once, and for T from the fall on. When T is reached, Q and Ta are 0."),
         ScansNote(10, 18, "Trg comes again before T is reached: the time begins anew at its fall."),
         ScansNote(18, 19, "R ends it: Q and Ta are 0."),
-        ScansNote(20, 23, "Trg held while R comes and goes: Q is 1, 0, and 1 again."),
-        ScansNote(23, 25, "A long scan, e 55, is beyond T: Q and Ta are 0."))),
+        ScansNote(20, 24, "Trg held while R comes and goes: Q is 1, 0, and stays 0."),
+        ScansNote(24, 26, "Trg let go and pressed again: a rise, so Q is 1."),
+        ScansNote(26, 28, "A long scan, e 55, is beyond T: Q and Ta are 0."))),
     "up_down_counter": Scans(17, lambda on, off: f"Up/down counter, On {on}, Off {off}", ("R", "Cnt", "Dir"), "the count",
                              lambda on, off: [("On", on), ("Off", off)], (
         ScansNote(2, 11, "A rise of Cnt counts one, however long Cnt stays 1. From On up Q1 is 1."),

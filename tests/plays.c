@@ -1,8 +1,30 @@
 #include "plays.h"
 
-/* Of an up/down counter the inputs are R, Cnt and Dir, the parameters On and Off, and e has no use; of a stairway switch Trg; base, T,
-   T! and T!L. */
+/* Of an off-delay the inputs are Trg and R, the parameters base and T; of an up/down counter R, Cnt and Dir; On and Off, and e has no use;
+   of a stairway switch Trg; base, T, T! and T!L. */
 const play plays[] = {
+    /* 10: from the rise to the end */
+    {"T 3, e 2", 10, {0, 3}, {0, 0, 0}, {"1000", "0000"}, 2, "1110", "1000", {0, 0, 2, 0}},
+    {"Trg stays 1: Q stays 1", 10, {0, 3}, {0, 0, 0}, {"1110000", "0000000"}, 2, "1111100", "1110000", {0, 0, 0, 0, 2, 0, 0}},
+    {"a rise before T", 10, {0, 3}, {0, 0, 0}, {"1001000", "0000000"}, 2, "1111110", "1001000", {0, 0, 2, 0, 0, 2, 0}},
+    {"T 0: ends on the fall", 10, {0, 0}, {0, 0, 0}, {"1101", "0000"}, 5, "1101", "1101", {0, 0, 0, 0}},
+    {"minutes", 10, {1, 1}, {0, 0, 0}, {"1000", "0000"}, 50, "1110", "1000", {0, 0, 50, 0}},
+
+    /* 10: R */
+    {"R while the time runs", 10, {0, 9}, {0, 0, 0}, {"10000", "00010"}, 2, "11100", "10000", {0, 0, 2, 0, 0}},
+    {"Trg held through R and after it", 10, {0, 3}, {0, 0, 0}, {"111101", "010000"}, 1, "100001", "111101", {0, 0, 0, 0, 0, 0}},
+    {"a rise under R is used up", 10, {0, 3}, {0, 0, 0}, {"01101", "01000"}, 1, "00001", "01101", {0, 0, 0, 0, 0}},
+    {"a second rise under R too", 10, {0, 3}, {0, 0, 0}, {"10110", "11100"}, 1, "00000", "10110", {0, 0, 0, 0, 0}},
+    {"let go under R: a rise after it", 10, {0, 3}, {0, 0, 0}, {"1001", "0110"}, 1, "1001", "1001", {0, 0, 0, 0}},
+    {"a rise in the scan behind R", 10, {0, 3}, {1, 0, 2}, {"01", "10"}, 1, "01", "01", {0, 0}},
+
+    /* 10: words that no scan leaves, or that a warm start kept */
+    {"remembered 1, Q 0, Ta 2, Trg still 1", 10, {0, 3}, {0, 1, 2}, {"1101", "0000"}, 1, "0001", "1101", {0, 0, 0, 0}},
+    {"remembered 1, Q 1, Ta 2, Trg still 1", 10, {0, 3}, {1, 1, 2}, {"1000", "0000"}, 1, "1111", "1000", {0, 0, 1, 2}},
+    {"remembered 1, Q 0, Ta 2, a fall", 10, {0, 3}, {0, 1, 2}, {"00", "00"}, 1, "00", "00", {0, 0}},
+    {"remembered 0, Q 0, Ta 2", 10, {0, 3}, {0, 0, 2}, {"001", "000"}, 1, "001", "001", {2, 2, 0}},
+    {"Ta = T, e 0", 10, {0, 3}, {1, 0, 3}, {"0", "0"}, 0, "0", "0", {0}},
+
     /* 17: thresholds on the count after the step */
     {"On = Off = 5", 17, {5, 5}, {0, 0, 4}, {"000", "101", "001"}, 0, "110", "101", {5, 5, 4}},
     {"held from Off up to On", 17, {5, 3}, {0, 0, 3}, {"00000", "10101", "00000"}, 0, "00111", "10101", {4, 4, 5, 5, 6}},

@@ -53,6 +53,10 @@ def on_delay(base, t):  # 16 bytes
     return block(9, [i1], [base, t])
 
 
+def off_delay(trg, r, t):  # 19 bytes
+    return block(10, [trg, r], [0, t])
+
+
 def register(index, bit, source=i1):  # 22 bytes
     return block(12, [source, i2, none], [index, bit])
 
@@ -104,6 +108,7 @@ cases = [
     ("four_registers", header(4) + register(3, 1) + register(1, 8) + register(4, 1) + register(2, 1) + end, 0, 0, 4, 0),
     ("counter_5", header(1) + counter(5, 5) + row(1, 1, (6, 1)) + end, 0, 0, 1, 1),
     ("stairway_6_3_2", header(1) + stairway(0, 6, 3, 2) + row(1, 1, (6, 1)) + end, 0, 0, 1, 1),
+    ("off_delay_held", header(1) + off_delay((3, 0), (0x81, 2), 3) + row(1, 1, (6, 1)) + end, 0, 0, 1, 1),  # Trg is hi, R is 1 while I2 is 0
     ("counter_275", header(1) + counter(275, 275) + row(1, 1, (6, 1)) + end, 0, 0, 1, 1),  # I2 rises in each scan of an even number
     ("counter_276", header(1) + counter(276, 276) + row(1, 1, (6, 1)) + end, 0, 0, 1, 1),
     ("stairway_dark_at_last", header(1) + stairway(2, 5999, 13, 12, m8) + row(1, 1, (6, 1)) + end, 0, 0, 1, 1),  # M8 is 1 in the first scan
@@ -199,6 +204,7 @@ cases = [
 nine_scans = {
     "counter_5": "0 0 0 0 0 0 0 0 1",  # the fifth rise; 4 give 0
     "stairway_6_3_2": "1 1 1 1 1 0 0 1 0",
+    "off_delay_held": "1 0 0 0 0 0 0 0 0",  # R goes in the third, the fifth, .. : no rise
 }
 
 

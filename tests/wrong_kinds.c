@@ -102,6 +102,26 @@ static serifdove_answer runs_wrongly(const uint8_t *circuit, size_t circuit_len,
 
 static int32_t parameter(const worked_out *b, unsigned i) { return parameter_at(&oracle_kind_rules[b->content[0]], b->content, i); }
 
+/* Input i, from 0, is 1. */
+static bool is_on(const worked_out *b, unsigned i) { return oracle_value(b->record, connector_at(b->content + 2 + 3 * i)) == 1; }
+
+/* ---- wrong rules of the off-delay */
+
+static void level_sets_q(const worked_out *b) {
+    if (is_on(b, 0) && !is_on(b, 1))
+        b->own[OUTPUT] = 1;
+}
+
+static void forgets_trg_under_r(const worked_out *b) {
+    if (is_on(b, 1))
+        b->own[REMEMBERED] = 0;
+}
+
+static void ta_stays_under_trg(const worked_out *b) {
+    if (is_on(b, 0) && b->before[REMEMBERED] == 1 && !is_on(b, 1))
+        b->own[NUMBER] = b->before[NUMBER];
+}
+
 /* ---- wrong rules of the counter */
 
 static void held_at_999998(const worked_out *b) {
@@ -109,15 +129,13 @@ static void held_at_999998(const worked_out *b) {
         b->own[NUMBER] = MOST_COUNT - 1;
 }
 
-static bool is_reset(const worked_out *b) { return oracle_value(b->record, connector_at(b->content + 2)) == 1; }
-
 static void forgets_cnt_under_r(const worked_out *b) {
-    if (is_reset(b))
+    if (is_on(b, 0))
         b->own[REMEMBERED] = 0;
 }
 
 static void q_is_0_under_r(const worked_out *b) {
-    if (is_reset(b))
+    if (is_on(b, 0))
         b->own[OUTPUT] = 0;
 }
 
@@ -125,8 +143,8 @@ static void q_is_0_under_r(const worked_out *b) {
 static void reads_dir_a_scan_late(const worked_out *b) {
     static bool was_down[MOST_BLOCKS];
     bool *late = &was_down[(size_t)(b->own - b->record - block_words(1)) / WORDS_OF_A_BLOCK];
-    const bool down = oracle_value(b->record, connector_at(b->content + 8)) == 1;
-    if (*late != down && !is_reset(b))
+    const bool down = is_on(b, 2);
+    if (*late != down && !is_on(b, 0))
         b->own[NUMBER] = b->before[NUMBER] - (b->own[NUMBER] - b->before[NUMBER]);
     *late = down;
 }
@@ -184,6 +202,9 @@ static const struct {
     {{.name = "forgets_counts", .warm_start = forgets_counts}, 0, NULL},
     {{.name = "stops_switches", .warm_start = stops_switches}, 0, NULL},
     {{.name = "refuses_running_switches", .latch = refuses_running_switches}, 0, NULL},
+    {{.name = "level_sets_q", .run = runs_wrongly}, OFF_DELAY, level_sets_q},
+    {{.name = "forgets_trg_under_r", .run = runs_wrongly}, OFF_DELAY, forgets_trg_under_r},
+    {{.name = "ta_stays_under_trg", .run = runs_wrongly}, OFF_DELAY, ta_stays_under_trg},
     {{.name = "count_held_at_999998", .run = runs_wrongly}, UP_DOWN_COUNTER, held_at_999998},
     {{.name = "forgets_cnt_under_r", .run = runs_wrongly}, UP_DOWN_COUNTER, forgets_cnt_under_r},
     {{.name = "q_is_0_under_r", .run = runs_wrongly}, UP_DOWN_COUNTER, q_is_0_under_r},

@@ -1,4 +1,4 @@
-/* The oracle's calls made wrong in what they know of the up/down counter and the stairway switch, each in one way. */
+/* The oracle's calls made wrong in what they know of the off-delay, the up/down counter and the stairway switch, each in one way. */
 #ifndef WRONG_KINDS_H
 #define WRONG_KINDS_H
 

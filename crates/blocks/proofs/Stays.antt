@@ -78,7 +78,8 @@ fades-made false ta h = made true false ta h
 off-made : (r trg was q : Bool) (ta t e : Ticks) → Made (max (ta .0) (t .0)) (offDelay r trg was q ta t e)
 unfolding offDelay
 off-made true trg was q ta t e = made false trg 0 (omega arith)
-off-made false true was q ta t e = made true true 0 (omega arith)
+off-made false true false q ta t e = made true true 0 (omega arith)
+off-made false true true q ta t e = made q true 0 (omega arith)
 off-made false false true q ta t e = made (q && ltb 0 (t .0)) false 0 (omega arith)
 off-made false false false true ta t e = fades-made (eqb (grown ta t e .0) (t .0)) (grown ta t e .0) (omega arith)
 off-made false false false false ta t e = made false false (ta .0) (omega arith)

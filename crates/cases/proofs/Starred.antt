@@ -32,4 +32,4 @@ unfolding table
     turned stepsFrom order along step becomes bitsOf valuesOf bitFrom plainBit sourceOf
     prepared workedOut rules andEdge onDelay offDelay shiftRegister thresholdTrigger triggersOn actualOf upDownCounter countsOn stairwaySwitch
     outputsOf destined carried
-starred = (refl, (refl, (refl, (refl, (refl, (refl, (refl, (refl, (refl, (refl, (refl, (refl, (refl, tt)))))))))))))
+starred = (refl, (refl, (refl, (refl, (refl, (refl, (refl, (refl, (refl, (refl, (refl, (refl, (refl, (refl, (refl, tt)))))))))))))))

@@ -1,5 +1,6 @@
--- Document 01, "Cases (starred: proved)": the eleven starred cases as one table, and behind them two of kinds 17 and 18. A row says what
--- is played, with `play` of crates/calls, and what must come out; `starred` is the theorem that it does.
+-- Document 01, "Cases (starred: proved)": the eleven starred cases as one table, and behind them four of document 02: kinds 17 and 18, and
+-- the off-delay with Trg held. A row says what is played, with `play` of crates/calls, and what must come out; `starred` is the theorem
+-- that it does.
 use Prim.Native.Nat.{ℕ, _-_}
 use mathlib.Core.Path.{_≡_}
 use mathlib.Core.List.{List, [], _∷_, _++_, map}
@@ -16,7 +17,7 @@ use Rattle.kept.specs.Keeps.{All, encode}
 use Rattle.lines.specs.Lines.{unused}
 use Rattle.record.specs.Places.{Place, done, analog, flag, output, remembered, number, sizeOf, at, word, put}
 use Rattle.destinations.specs.Destinations.{Q, M}
-use Rattle.calls.specs.Calls.{coldStart, latch, run, publish}
+use Rattle.calls.specs.Calls.{coldStart, warmStart, latch, run, publish}
 use Rattle.calls.specs.Play.{AnyCall, check, on, Moment, moment, play}
 
 -- ---- what a case is
@@ -86,13 +87,20 @@ to class number from = record { class = class; number = number; from = from }
 abbrev blockOf : ℕ → List Connector → List ℤ → Block
 blockOf kind inputs parameters = record { kind = kind; option = 0; inputs = inputs; parameters = parameters; label = none }
 
+-- the same block, retentive
+abbrev retentive : Block → Block
+retentive b = record { kind = b .kind; option = 1; inputs = b .inputs; parameters = b .parameters; label = b .label }
+
 -- the bytes of one block with the row Q1 from it
 abbrev onQ1 : Block → List ℕ
 onQ1 b = encode (record { version = 1; n = 1; blocks = b ∷ []; rows = to Q 1 (fromBlock 1) ∷ [] })
 
--- Trg I1, R unused; base 0, T 3
+-- Trg I1, this R; base 0, T 3
+abbrev offDelayWith : Connector → Block
+offDelayWith r = blockOf 10 (fromI 1 ∷ r ∷ []) (pos 0 ∷ pos 3 ∷ [])
+
 abbrev offDelay : Block
-offDelay = blockOf 10 (fromI 1 ∷ unused ∷ []) (pos 0 ∷ pos 3 ∷ [])
+offDelay = offDelayWith unused
 
 -- Trg I1; base 0, T 0
 abbrev onDelay : Block
@@ -196,6 +204,28 @@ q1Over b e readings q =
       out = seen (acceptedWith 0 0 ∷ []) (pos 1 ∷ []) ∷ map (λ x. scanned 1 (pos x ∷ [])) q;
     }
 
+-- readings of an off-delay: Trg I1, R I2
+abbrev pressed : List ℤ
+pressed = reading (1 ∷ 0 ∷ []) []
+
+abbrev underR : List ℤ
+underR = reading (1 ∷ 1 ∷ []) []
+
+abbrev letGo : List ℤ
+letGo = reading (0 ∷ 0 ∷ []) []
+
+-- Q1 of an off-delay that is set and reset, then started warm, Trg held all the while
+abbrev heldThroughStart : Block → ℕ → Case
+heldThroughStart b q =
+    let started = acceptedWith 0 0 ∷ [] in
+    record {
+      circuit = onQ1 b;
+      from = filled 1 1;
+      played = (on coldStart ∷ []) ∷ scan 1 pressed ∷ scan 1 underR ∷ (on warmStart ∷ []) ∷ scan 1 pressed ∷ [];
+      watched = q1;
+      out = seen started (pos 1 ∷ []) ∷ scanned 1 (pos 1 ∷ []) ∷ scanned 1 (pos 0 ∷ []) ∷ seen started (pos 0 ∷ []) ∷ scanned 1 (pos q ∷ []) ∷ [];
+    }
+
 -- a single scan
 abbrev once : Block → Moment → List ℤ → (Moment → List ℤ) → List ℤ → Case
 once b from r watched words =
@@ -221,7 +251,7 @@ run0 d toGo =
       out = seen (acceptedWith 0 toGo ∷ []) (whole (inScan d)) ∷ [];
     }
 
--- a row for each starred line, in the paper's order, then the two of document 02: the cases that the line names
+-- a row for each starred line, in the paper's order, then those of document 02: the cases that the line names
 unfoldable pub table : List (List Case)
 table =
     -- "Empty circuit: 1 at 0."
@@ -257,4 +287,13 @@ table =
     ∷ (counted 4 0 0 5 1 ∷ counted 5 1 1 4 0 ∷ [])
     -- Stairway switch, T 6, T! 3, T!L 2, e 1, Trg 1, 1, 0, 0, ..: Q 1 1 1 1 1 0 0 1 0.
     ∷ (q1Over stairs 1 (map bit (1 ∷ 1 ∷ 0 ∷ 0 ∷ 0 ∷ 0 ∷ 0 ∷ 0 ∷ 0 ∷ [])) (1 ∷ 1 ∷ 1 ∷ 1 ∷ 1 ∷ 0 ∷ 0 ∷ 1 ∷ 0 ∷ []) ∷ [])
+    -- No. 3. Off-delay, Trg held through R and after it: Q 1, 0, 0, 0, and 1 again when it was let go and pressed; pressed under R: likewise.
+    ∷ (q1Over (offDelayWith (fromI 2)) 1 (pressed ∷ underR ∷ pressed ∷ pressed ∷ letGo ∷ pressed ∷ []) (1 ∷ 0 ∷ 0 ∷ 0 ∷ 0 ∷ 1 ∷ [])
+    ∷ q1Over (offDelayWith (fromI 2)) 1 (underR ∷ pressed ∷ letGo ∷ pressed ∷ []) (0 ∷ 0 ∷ 0 ∷ 1 ∷ [])
+    ∷ [])
+    -- Trg held through a start: a rise to an off-delay that is not retentive, none to one that is, nor where R is M8.
+    ∷ (heldThroughStart (offDelayWith (fromI 2)) 1
+    ∷ heldThroughStart (retentive (offDelayWith (fromI 2))) 0
+    ∷ q1Over (offDelayWith (fromM 8)) 1 (pressed ∷ pressed ∷ letGo ∷ pressed ∷ []) (0 ∷ 0 ∷ 0 ∷ 1 ∷ [])
+    ∷ [])
     ∷ []

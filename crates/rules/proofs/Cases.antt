@@ -1,14 +1,14 @@
--- What the starred cases do not say of a rule: for every Ta and e, and with In 0; and the gain, at which an edit of its definition is
--- refused. Assumes nothing.
+-- What the starred cases do not say of a rule: for every Ta and e, and with In 0; what sets the off-delay, and the gain, at which edits of
+-- their definitions are refused. Assumes nothing.
 use mathlib.Core.Path.{_≡_, refl}
-use mathlib.Core.Bool.{Bool, true, false}
+use mathlib.Core.Bool.{Bool, true, false, not, _&&_}
 use Prim.Native.Nat.{ℕ}
 use native.Mathlib.Nat.{zero-min}
 use lib.IntN.{ℤ, pos}
 use Rattle.words.specs.Signed.{minus, bitOf}
 use Rattle.kinds.specs.Time.{ticks}
 use Rattle.kinds.specs.declared.Ticks.{Ticks}
-use Rattle.rules.specs.Rules.{onDelay, shiftRegister, actualOf}
+use Rattle.rules.specs.Rules.{gives, onDelay, offDelay, shiftRegister, actualOf}
 
 -- the register after a rising Trg, In 0
 abbrev register : ℕ → Bool → ℤ
@@ -17,6 +17,10 @@ register r down = shiftRegister false true down false r 1 .number
 pub record RuleCases : Type 0 where
   -- "On-delay, T 0: Q follows Trg at once."
   pub on-delay : (trg was : Bool) (ta e : Ticks) → bitOf (onDelay trg was ta (ticks 0) e .output) ≡ trg
+  -- off-delay: "Q becomes 1 on a rise only", and on each one without R
+  pub set-by-a-rise : (r trg was : Bool) (ta t e : Ticks) → bitOf (offDelay r trg was false ta t e .output) ≡ not r && (trg && not was)
+  -- off while Trg is held, it stays so for as long, whatever R is
+  pub held-off : (r : Bool) (ta t e : Ticks) → offDelay r true true false ta t e ≡ gives false true 0
   -- "Gain −33, input 10, B 0: −3."
   pub gain : actualOf (pos 10) (minus 33) (pos 0) ≡ minus 3
   -- nothing goes round
@@ -30,6 +34,19 @@ at-once true true ta e = rw zero-min
 at-once true false ta e = refl
 at-once false was ta e = refl
 
+by-a-rise : (r trg was : Bool) (ta t e : Ticks) → bitOf (offDelay r trg was false ta t e .output) ≡ not r && (trg && not was)
+unfolding offDelay
+by-a-rise true trg was ta t e = refl
+by-a-rise false true false ta t e = refl
+by-a-rise false true true ta t e = refl
+by-a-rise false false true ta t e = refl
+by-a-rise false false false ta t e = refl
+
+stays-off : (r : Bool) (ta t e : Ticks) → offDelay r true true false ta t e ≡ gives false true 0
+unfolding offDelay
+stays-off true ta t e = refl
+stays-off false ta t e = refl
+
 pub rule-cases : RuleCases
 unfolding shiftRegister actualOf
-rule-cases = record { on-delay = at-once; gain = refl; up-in-0 = refl; down-in-0 = refl; down-from-1-in-0 = refl }
+rule-cases = record { on-delay = at-once; set-by-a-rise = by-a-rise; held-off = stays-off; gain = refl; up-in-0 = refl; down-in-0 = refl; down-from-1-in-0 = refl }

@@ -89,12 +89,13 @@ onDelay true true ta t e = runs (grown ta t e) t
 abbrev pub fades : Ticks → Ticks → BlockWords
 fades ta t = cond (eqb (ta .0) (t .0)) (gives false false 0) (gives true false (ta .0))
 
--- 10 off-delay, on R, Trg, Trg of the last scan and Q of the last scan: "R: Q = 0, Ta = 0. Else Trg 1: Q = 1, Ta = 0. Else, Trg just
--- fell: Ta = 0, Q is 1 exactly when it was 1 and T > 0. Else if Q was 1: Ta = min(T, Ta + e); .. Else no change. Trg is remembered in
--- every case."
+-- 10 off-delay, on R, Trg, Trg of the last scan and Q of the last scan: "R: Q = 0, Ta = 0." Else by document 02, No. 3: "Q becomes 1 on a
+-- rise only; with Trg still 1 Q stays as it was and Ta is 0." "Else, Trg just fell: Ta = 0, Q is 1 exactly when it was 1 and T > 0. Else if
+-- Q was 1: Ta = min(T, Ta + e); .. Else no change. Trg is remembered in every case."
 unfoldable pub offDelay : Bool → Bool → Bool → Bool → Ticks → Ticks → Ticks → BlockWords
 offDelay true trg was q ta t e = gives false trg 0
-offDelay false true was q ta t e = gives true true 0
+offDelay false true false q ta t e = gives true true 0
+offDelay false true true q ta t e = gives q true 0
 offDelay false false true q ta t e = gives (q && ltb 0 (t .0)) false 0
 offDelay false false false true ta t e = fades (grown ta t e) t
 offDelay false false false false ta t e = gives false false (ta .0)

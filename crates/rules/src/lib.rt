@@ -156,7 +156,7 @@ fn fading(ta: Ticks, t: Ticks, e: Ticks) -> BlockWords
     given(true, false, run.0)
 }
 
-// Kind 10, off-delay.
+// Kind 10, off-delay: a rise of Trg sets Q; while Trg stays 1, Q stays.
 pub fn off_delay(
     r: bool,
     trg: bool,
@@ -173,7 +173,7 @@ pub fn off_delay(
         return given(false, trg, 0);
     }
     if trg {
-        return given(true, true, 0);
+        return given(!was | q, true, 0);
     }
     if was {
         return given(q & (0 < t.0), false, 0);

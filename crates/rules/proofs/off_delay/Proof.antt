@@ -1,8 +1,17 @@
 -- `rules::off_delay` meets its contract: a return for each case, in the order of the rule. Assumes nothing.
-use Rattle.rules.specs.Rules.{offDelay}
+use mathlib.Core.Path.{_≡_, refl, _∙_}
+use mathlib.Core.Bool.{Bool, true, false, not, _||_}
+use Rattle.kinds.specs.declared.Ticks.{Ticks}
+use Rattle.rules.specs.Rules.{gives, offDelay}
 use borrow.Author.Needs.{needs}
 use Rattle.rules.proofs.off_delay.Statement.{statement}
 use Rattle.rules.proofs.off_delay.Tie as tie
+
+-- with Trg 1: set by a rise, else as it was
+set-or-held : (was q : Bool) (ta t e : Ticks) → gives (not was || q) true 0 ≡ offDelay false true was q ta t e
+unfolding offDelay
+set-or-held false q ta t e = refl
+set-or-held true q ta t e = refl
 
 given-requires : tie.Need-given-requires
 given-requires c κs = search needs
@@ -15,8 +24,9 @@ given-requires-2 : tie.Need-given-requires-2
 given-requires-2 c κs = search needs
 
 returns-2 : tie.Need-returns-2
-unfolding offDelay
-returns-2 c = rw (c .before .before .if1 .left, c .before .if2 .taken) (c .given2 .ensures)
+returns-2 c =
+    let a = c .before .before .before .args in
+    rw (c .before .before .if1 .left, c .before .if2 .taken) (c .given2 .ensures ∙ set-or-held (a .was) (a .q) (a .ta) (a .t) (a .e))
 
 given-requires-3 : tie.Need-given-requires-3
 given-requires-3 c κs = search needs
