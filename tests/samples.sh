@@ -109,6 +109,11 @@ for rule in s/,1500,100,/,1500,99,/ s/,1500,100,/,1499,100,/ s/,20,2,/,20,1,/ 's
     shows_otherwise highbay "$rule"
 done
 
+# an intake that starts with the power, and one that the chain does not stop
+for rule in 's/,132,8,0,0,0,0,1,intake_stop/,0,0,0,0,0,0,1,intake_stop/' 's/^16,10,0,1,11,6,15,/16,10,0,1,11,0,0,/'; do
+    shows_otherwise returns "$rule"
+done
+
 # a harbour in which the open button no longer stops the motor on its way down
 sed -e 's/4,2,1,up_stop/0,0,1,up_stop/' -e 's/1,1,6,8,1,down_stop/0,0,6,8,1,down_stop/' samples/harbour.csv >"$work/unsafe.csv"
 [ "$(diff samples/harbour.csv "$work/unsafe.csv" | grep -c '^>')" -eq 2 ] || differs "$work/unsafe.csv" "the interlock is not taken out"

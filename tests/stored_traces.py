@@ -4,7 +4,7 @@ stored_traces.py: prints it."""
 import sys
 
 sys.dont_write_bytecode = True
-from stored_circuits import ai1, block, document_01, end, header, i1, i2, none, on_delay, row, stairway, trigger
+from stored_circuits import ai1, and_of, block, document_01, end, header, i1, i2, m8, none, on_delay, row, stairway, trigger
 
 PHASE, DONE, MARK, E = range(4)
 Q, M, AQ, AM = 1, 2, 3, 4  # destination classes
@@ -146,16 +146,35 @@ def delays():
     trace.scan(own(1, 1, 1, 0), q1, e=1, bits={1: 1})
     trace.end()
     two = header(2) + block(*off_delay, 1) + block(*off_delay) + row(Q, 1, block1) + row(Q, 2, (6, 2)) + end
-    trace = Trace("off-delays, the first retentive: Trg held through a warm start is a rise to the other alone", two, 2)
+    trace = Trace("off-delays, the first retentive: Trg held through a warm start is a rise to the other alone, pressed in between to both", two, 2)
     trace.cold()
     trace.scan(own(1, 1, 1, 0) | own(2, 1, 1, 0), {(Q, 1): 1, (Q, 2): 1}, e=1, bits={1: 1})
     trace.scan(own(1, 0, 1, 0) | own(2, 0, 1, 0), {}, e=1, bits={1: 1, 2: 1})
     trace.warm(own(1, 0, 1, 0))
     trace.scan(own(1, 0, 1, 0) | own(2, 1, 1, 0), {(Q, 2): 1}, e=1, bits={1: 1})
     trace.scan(own(1, 0, 0, 0) | own(2, 1, 0, 0), {(Q, 2): 1}, e=1)
+    trace.warm(own(1, 0, 0, 0))
     trace.scan(own(1, 1, 1, 0) | own(2, 1, 1, 0), {(Q, 1): 1, (Q, 2): 1}, e=1, bits={1: 1})
     trace.warm(own(1, 1, 1, 0))
     trace.scan(own(1, 1, 1, 0) | own(2, 1, 1, 0), {(Q, 1): 1, (Q, 2): 1}, e=1, bits={1: 1})
+    trace.end()
+    led_over_an_and = header(2) + and_of(i1, (0x81, 2)) + block(10, [block1, i2], [0, 3]) + row(Q, 1, (6, 2)) + end
+    trace = Trace("off-delay, its Trg led over an AND with R inverted: it goes on by itself when R goes", led_over_an_and, 2)
+    trace.cold()
+    trace.scan(own(1, 1) | own(2, 1, 1, 0), q1, e=1, bits={1: 1})
+    trace.scan(own(1, 0) | own(2, 0, 0, 0), {}, e=1, bits={1: 1, 2: 1})
+    trace.scan(own(1, 1) | own(2, 1, 1, 0), q1, e=1, bits={1: 1})
+    trace.scan(own(1, 0) | own(2, 1, 0, 0), q1, e=1)
+    trace.end()
+    first_scan_too = header(3) + block(5, [i2, m8, none, none]) + and_of(i1, (0x81, 2)) + block(10, [(6, 2), block1], [0, 3]) + row(Q, 1, (6, 3)) + end
+    trace = Trace("off-delay, M8 among its R besides: held through the start it stays off, and goes on by itself when the other R goes", first_scan_too, 3)
+    trace.cold()
+    trace.scan(own(1, 1) | own(2, 1) | own(3, 0, 1, 0), {}, e=1, bits={1: 1})
+    trace.scan(own(1, 0) | own(2, 1) | own(3, 0, 1, 0), {}, e=1, bits={1: 1})
+    trace.scan(own(1, 0) | own(2, 0) | own(3, 0, 0, 0), {}, e=1)
+    trace.scan(own(1, 0) | own(2, 1) | own(3, 1, 1, 0), q1, e=1, bits={1: 1})
+    trace.scan(own(1, 1) | own(2, 0) | own(3, 0, 0, 0), {}, e=1, bits={1: 1, 2: 1})
+    trace.scan(own(1, 0) | own(2, 1) | own(3, 1, 1, 0), q1, e=1, bits={1: 1})
     trace.end()
     trace = Trace("on-delay, T 0: Q follows Trg at once", header(1) + on_delay(0, 0) + row(Q, 20, block1) + end, 1)
     trace.cold()

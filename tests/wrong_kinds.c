@@ -117,7 +117,7 @@ static void forgets_trg_under_r(const worked_out *b) {
         b->own[REMEMBERED] = 0;
 }
 
-static void ta_stays_under_trg(const worked_out *b) {
+static void ta_stays_while_trg_is_1(const worked_out *b) {
     if (is_on(b, 0) && b->before[REMEMBERED] == 1 && !is_on(b, 1))
         b->own[NUMBER] = b->before[NUMBER];
 }
@@ -204,7 +204,7 @@ static const struct {
     {{.name = "refuses_running_switches", .latch = refuses_running_switches}, 0, NULL},
     {{.name = "level_sets_q", .run = runs_wrongly}, OFF_DELAY, level_sets_q},
     {{.name = "forgets_trg_under_r", .run = runs_wrongly}, OFF_DELAY, forgets_trg_under_r},
-    {{.name = "ta_stays_under_trg", .run = runs_wrongly}, OFF_DELAY, ta_stays_under_trg},
+    {{.name = "ta_stays_while_trg_is_1", .run = runs_wrongly}, OFF_DELAY, ta_stays_while_trg_is_1},
     {{.name = "count_held_at_999998", .run = runs_wrongly}, UP_DOWN_COUNTER, held_at_999998},
     {{.name = "forgets_cnt_under_r", .run = runs_wrongly}, UP_DOWN_COUNTER, forgets_cnt_under_r},
     {{.name = "q_is_0_under_r", .run = runs_wrongly}, UP_DOWN_COUNTER, q_is_0_under_r},

@@ -1,6 +1,6 @@
--- Document 01, "Cases (starred: proved)": the eleven starred cases as one table, and behind them four of document 02: kinds 17 and 18, and
--- the off-delay with Trg held. A row says what is played, with `play` of crates/calls, and what must come out; `starred` is the theorem
--- that it does.
+-- Document 01, "Cases (starred: proved)": the eleven starred cases as one table, and behind them four rows for document 02, worked out by
+-- hand: kinds 17 and 18, and the off-delay with Trg held. A row says what is played, with `play` of crates/calls, and what must come out;
+-- `starred` is the theorem that it does.
 use Prim.Native.Nat.{ℕ, _-_}
 use mathlib.Core.Path.{_≡_}
 use mathlib.Core.List.{List, [], _∷_, _++_, map}
@@ -204,7 +204,7 @@ q1Over b e readings q =
       out = seen (acceptedWith 0 0 ∷ []) (pos 1 ∷ []) ∷ map (λ x. scanned 1 (pos x ∷ [])) q;
     }
 
--- readings of an off-delay: Trg I1, R I2
+-- readings of an off-delay, Trg I1 and R I2: Trg alone, both, neither
 abbrev pressed : List ℤ
 pressed = reading (1 ∷ 0 ∷ []) []
 
@@ -283,15 +283,15 @@ table =
     ∷ [])
     -- "Run of 0 blocks in a scan: nothing changes; answer 0, 0, 0 and the blocks to go."
     ∷ (run0 0 1 ∷ run0 1 0 ∷ [])
-    -- document 02, No. 2, worked out by hand. Counter, On = Off = 5: from 4 up to 5 gives 1, from 5 down to 4 gives 0.
+    -- document 02, No. 2. Counter, On = Off = 5: from 4 up to 5 gives 1, from 5 down to 4 gives 0.
     ∷ (counted 4 0 0 5 1 ∷ counted 5 1 1 4 0 ∷ [])
     -- Stairway switch, T 6, T! 3, T!L 2, e 1, Trg 1, 1, 0, 0, ..: Q 1 1 1 1 1 0 0 1 0.
     ∷ (q1Over stairs 1 (map bit (1 ∷ 1 ∷ 0 ∷ 0 ∷ 0 ∷ 0 ∷ 0 ∷ 0 ∷ 0 ∷ [])) (1 ∷ 1 ∷ 1 ∷ 1 ∷ 1 ∷ 0 ∷ 0 ∷ 1 ∷ 0 ∷ []) ∷ [])
     -- No. 3. Off-delay, Trg held through R and after it: Q 1, 0, 0, 0, and 1 again when it was let go and pressed; pressed under R: likewise.
     ∷ (q1Over (offDelayWith (fromI 2)) 1 (pressed ∷ underR ∷ pressed ∷ pressed ∷ letGo ∷ pressed ∷ []) (1 ∷ 0 ∷ 0 ∷ 0 ∷ 0 ∷ 1 ∷ [])
-    ∷ q1Over (offDelayWith (fromI 2)) 1 (underR ∷ pressed ∷ letGo ∷ pressed ∷ []) (0 ∷ 0 ∷ 0 ∷ 1 ∷ [])
+    ∷ q1Over (offDelayWith (fromI 2)) 1 (underR ∷ pressed ∷ letGo ∷ pressed ∷ pressed ∷ []) (0 ∷ 0 ∷ 0 ∷ 1 ∷ 1 ∷ [])
     ∷ [])
-    -- Trg held through a start: a rise to an off-delay that is not retentive, none to one that is, nor where R is M8.
+    -- Trg held through a start: a rise to an off-delay that is not retentive, none to one that is; where R is M8 it is used up.
     ∷ (heldThroughStart (offDelayWith (fromI 2)) 1
     ∷ heldThroughStart (retentive (offDelayWith (fromI 2))) 0
     ∷ q1Over (offDelayWith (fromM 8)) 1 (pressed ∷ pressed ∷ letGo ∷ pressed ∷ []) (0 ∷ 0 ∷ 0 ∷ 1 ∷ [])

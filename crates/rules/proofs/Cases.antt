@@ -1,5 +1,5 @@
--- What the starred cases do not say of a rule: for every Ta and e, and with In 0; what sets the off-delay, and the gain, at which edits of
--- their definitions are refused. Assumes nothing.
+-- What the starred cases do not say of a rule: for every Ta and e, and with In 0; that a rise sets the off-delay; and the gain. At the last
+-- two an edit of the definition is refused. Assumes nothing.
 use mathlib.Core.Path.{_≡_, refl}
 use mathlib.Core.Bool.{Bool, true, false, not, _&&_}
 use Prim.Native.Nat.{ℕ}

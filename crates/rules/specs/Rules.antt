@@ -1,5 +1,5 @@
 -- Document 01, "The blocks": what each kind makes of its inputs, its parameters and what it had, on plain values. A bit is true where
--- the paper says 1. `was` is the remembered bit, `q` the output of the last scan. Kinds 17 and 18: document 02, No. 2.
+-- the paper says 1. `was` is the remembered bit, `q` the output of the last scan. Kinds 17 and 18: document 02, No. 2; kind 10 with its No. 3.
 use Prim.Native.Nat.{ℕ, _+_, _-_, _*_, _/_, _%_, _^_, min}
 use mathlib.Core.Bool.{Bool, true, false, not, cond, _&&_, _||_, Bool·beq}
 use mathlib.Core.List.{List, [], _∷_}
@@ -89,9 +89,9 @@ onDelay true true ta t e = runs (grown ta t e) t
 abbrev pub fades : Ticks → Ticks → BlockWords
 fades ta t = cond (eqb (ta .0) (t .0)) (gives false false 0) (gives true false (ta .0))
 
--- 10 off-delay, on R, Trg, Trg of the last scan and Q of the last scan: "R: Q = 0, Ta = 0." Else by document 02, No. 3: "Q becomes 1 on a
--- rise only; with Trg still 1 Q stays as it was and Ta is 0." "Else, Trg just fell: Ta = 0, Q is 1 exactly when it was 1 and T > 0. Else if
--- Q was 1: Ta = min(T, Ta + e); .. Else no change. Trg is remembered in every case."
+-- 10 off-delay, on R, Trg, Trg of the last scan and Q of the last scan: "R: Q = 0, Ta = 0. Else Trg 1: .. Ta = 0.", and of Q there, document
+-- 02: "Q becomes 1 on a rise only; with Trg still 1 Q stays as it was". "Else, Trg just fell: Ta = 0, Q is 1 exactly when it was 1 and
+-- T > 0. Else if Q was 1: Ta = min(T, Ta + e); .. Else no change. Trg is remembered in every case."
 unfoldable pub offDelay : Bool → Bool → Bool → Bool → Ticks → Ticks → Ticks → BlockWords
 offDelay true trg was q ta t e = gives false trg 0
 offDelay false true false q ta t e = gives true true 0
