@@ -1,5 +1,5 @@
 -- `rules::off_delay` meets its contract: a return for each case, in the order of the rule. Assumes nothing.
-use mathlib.Core.Path.{_≡_, refl, _∙_}
+use mathlib.Core.Path.{_≡_, refl}
 use mathlib.Core.Bool.{Bool, true, false, not, _||_}
 use Rattle.kinds.specs.declared.Ticks.{Ticks}
 use Rattle.rules.specs.Rules.{gives, offDelay}
@@ -26,7 +26,7 @@ given-requires-2 c κs = search needs
 returns-2 : tie.Need-returns-2
 returns-2 c =
     let a = c .before .before .before .args in
-    rw (c .before .before .if1 .left, c .before .if2 .taken) (c .given2 .ensures ∙ set-or-held (a .was) (a .q) (a .ta) (a .t) (a .e))
+    rw (c .before .before .if1 .left, c .before .if2 .taken, ← set-or-held (a .was) (a .q) (a .ta) (a .t) (a .e)) (c .given2 .ensures)
 
 given-requires-3 : tie.Need-given-requires-3
 given-requires-3 c κs = search needs
