@@ -1,6 +1,6 @@
-// Judges each circuit that an argument names, and prints the name and the answer, a line to each. An accepted one it also plays: a cold start
-// and 551 scans in turns, of which it shows the first two and the last two, and a latch that must be refused; and a cold start and nine
-// scans, a tick apart, of which it shows Q1.
+// Judges each circuit that an argument names, and prints the name and the answer, a line to each, and on a second line the answer for the
+// series 0BA6. An accepted one it also plays: a cold start and 551 scans in turns, of which it shows the first two and the last two, and a
+// latch that must be refused; and a cold start and nine scans, a tick apart, of which it shows Q1.
 ghost use mathlib.Core.Path.{_≡_};
 ghost use lib.ListN.{length};
 use report::ROOM;
@@ -156,9 +156,20 @@ fn played_with(path: &[u8], circuit: &[u8], n: usize) {
 
 // ---- the arguments
 
+// The answer for the series, under the name.
+fn judged_for_0ba6(path: &[u8], circuit: &[u8]) {
+    if ROOM <= circuit.len() {
+        return;
+    }
+    report::text(path);
+    report::text(b" 0BA6 ");
+    report::line(circuit::check_profile(circuit));
+}
+
 // A circuit, under its name.
 fn judged(path: &[u8], circuit: &[u8]) {
     let answer = report::judged(circuit);
+    judged_for_0ba6(path, circuit);
     if answer.number == 0 {
         played_with(path, circuit, answer.first);
     }

@@ -4,9 +4,10 @@ ghost use mathlib.Core.Bool.{false};
 ghost use Prim.Native.Nat.{_≤_};
 ghost use lib.ListN.{length, replicate};
 ghost use Rattle.kinds.specs.Table.{kindsTable};
+ghost use Rattle.refusals.specs.Limited.{older};
 ghost use Rattle.refusals.specs.Modest.{Modest};
 ghost use Rattle.decoding.specs.Held.{Sound, seenOf, judgedOf};
-ghost use Rattle.circuit.specs.Circuit.{answerOf};
+ghost use Rattle.circuit.specs.Circuit.{answerAt, answerOf};
 ghost use Rattle.circuit.specs.Judged.{Answers, Says};
 use decoding::Head;
 use decoding::Step;
@@ -159,16 +160,31 @@ pub fn judge(
     )
 }
 
-// The answer to a circuit: refusal number and place, or blocks and rows.
-pub fn check(circuit: &[u8]) -> Answer
-    ensures { λ r. ⌜ r ≡ answerOf (now (circuit .entry)) ⌝ }
+// The answer to a circuit at these limits.
+fn answer(limits: Limits, circuit: &[u8]) -> Answer
+    requires { ⌜ Modest limits ⌝ }
+    ensures { λ r. ⌜ r ≡ answerAt limits (now (circuit .entry)) ⌝ }
 {
     let kinds = kinds::table();
     let mut offsets = [0usize; 400];
-    let judged = judge(refusals::ours(), &kinds, circuit, &mut offsets);
+    let judged = judge(limits, &kinds, circuit, &mut offsets);
     if judged.number != 0 {
         return refusals::refused_at(judged.number as usize, judged.place);
     }
     let head = judged.head;
     refusals::accepted_with(head.n, head.rows)
+}
+
+// The answer to a circuit: refusal number and place, or blocks and rows.
+pub fn check(circuit: &[u8]) -> Answer
+    ensures { λ r. ⌜ r ≡ answerOf (now (circuit .entry)) ⌝ }
+{
+    answer(refusals::ours(), circuit)
+}
+
+// The same, at the limits of the series 0BA6.
+pub fn check_profile(circuit: &[u8]) -> Answer
+    ensures { λ r. ⌜ r ≡ answerAt older (now (circuit .entry)) ⌝ }
+{
+    answer(refusals::older(), circuit)
 }

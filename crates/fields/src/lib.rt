@@ -65,7 +65,7 @@ pub fn end_number(size: usize, stage: u8, n: usize, count: usize) -> u8
 // ---- destinations
 
 // The greatest number of a destination class.
-fn limit_of(limits: Limits, class: usize) -> usize
+pub fn limit_of(limits: Limits, class: usize) -> usize
     ensures { λ r. ⌜ r ≡ limitOf limits class ⌝ }
 {
     if class == 1 {

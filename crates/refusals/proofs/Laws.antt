@@ -1,4 +1,4 @@
--- The first number that holds is the lowest where the numbers rise; our limits are modest. Assumes nothing.
+-- The first number that holds is the lowest where the numbers rise; our limits and those of the older series are modest. Assumes nothing.
 use mathlib.Core.Path.{_≡_, refl}
 use mathlib.Core.Bool.{Bool, true, false, false≢true}
 use mathlib.Core.List.{List, [], _∷_}
@@ -8,7 +8,7 @@ use borrow.Author.Tests.{leb-true}
 use lib.Dec.{leb}
 use Rattle.words.proofs.Bounds.{and-true}
 use Rattle.refusals.specs.Faults.{Fault, lowest, AtMost, risesFrom, rises}
-use Rattle.refusals.specs.Limited.{ours}
+use Rattle.refusals.specs.Limited.{ours, older}
 use Rattle.refusals.specs.Modest.{Modest}
 
 -- what rises from a number on is not below it
@@ -39,3 +39,6 @@ least-of-rising l e = least-from 1 l e
 
 pub ours-modest : Modest ours
 ours-modest = record { blocks = omega arith; q = omega arith; aq = omega arith; m = omega arith; am = omega arith }
+
+pub older-modest : Modest older
+older-modest = record { blocks = omega arith; q = omega arith; aq = omega arith; m = omega arith; am = omega arith }

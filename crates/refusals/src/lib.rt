@@ -1,6 +1,6 @@
 // What every judging has in common: limits, stages, and the answer of four numbers.
 ghost use mathlib.Core.Path.{_≡_};
-ghost use Rattle.refusals.specs.Limited.{ours as oursOf};
+ghost use Rattle.refusals.specs.Limited.{ours as oursOf, older as olderOf};
 ghost use Rattle.refusals.specs.Answers.{refusedAt, acceptedWith};
 
 // The most blocks, and the greatest number of Q, AQ, M and AM.
@@ -42,6 +42,19 @@ pub fn ours() -> Limits
         aq: 8,
         m: 64,
         am: 64,
+    }
+}
+
+// Those of the series 0BA6.
+pub fn older() -> Limits
+    ensures { λ r. ⌜ r ≡ olderOf ⌝ }
+{
+    Limits {
+        blocks: 200,
+        q: 16,
+        aq: 2,
+        m: 27,
+        am: 6,
     }
 }
 

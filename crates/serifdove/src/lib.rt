@@ -1,7 +1,8 @@
 // The C interface: one line a call, over the calls. include/serifdove.h has the promises in plain words.
 ghost use mathlib.Core.Path.{_≡_};
 ghost use lib.ListN.{length};
-ghost use Rattle.circuit.specs.Circuit.{answerOf};
+ghost use Rattle.refusals.specs.Limited.{older};
+ghost use Rattle.circuit.specs.Circuit.{answerAt, answerOf};
 ghost use Rattle.rows.specs.Reading.{readAnswer, circuitAfter};
 ghost use Rattle.rows.specs.Writing.{writeAnswer, textAfter};
 ghost use Rattle.calls.specs.Calls.{coldStart, warmStart, latch, run, publish, answerAfter, recordAfter, outputsAfter};
@@ -13,6 +14,14 @@ pub extern "C" fn serifdove_check(circuit: &[u8]) -> Answer
     ensures { λ r. ⌜ r ≡ answerOf (now (circuit .entry)) ⌝ }
 {
     circuit::check(circuit)
+}
+
+// The same, at the limits of the series 0BA6.
+#[no_mangle]
+pub extern "C" fn serifdove_check_profile(circuit: &[u8]) -> Answer
+    ensures { λ r. ⌜ r ≡ answerAt older (now (circuit .entry)) ⌝ }
+{
+    circuit::check_profile(circuit)
 }
 
 // A record as it is before the first scan.

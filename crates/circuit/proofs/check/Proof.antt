@@ -1,55 +1,21 @@
--- `circuit::check` meets its contract: the answer of the verdict, at our limits. Assumes nothing.
-use mathlib.Core.Path.{refl, sym, _∙_, ap, subst}
+-- `circuit::check` meets its contract: the answer at our limits. Assumes nothing.
+use mathlib.Core.Path.{_≡_, sym, subst}
 use Rattle.refusals.specs.Modest.{Modest}
 use Rattle.refusals.specs.declared.Limits.{Limits}
 use Rattle.refusals.proofs.Laws.{ours-modest}
 use Rattle.circuit.specs.Circuit.{answerAt}
-use Rattle.circuit.proofs.Walk.{answer-refused, answer-accepted}
 use borrow.Author.Needs.{needs}
 use Rattle.circuit.proofs.check.Statement.{statement}
 use Rattle.circuit.proofs.check.Tie as tie
 
-table-requires : tie.Need-table-requires
-table-requires c κs = search needs
-
 ours-requires : tie.Need-ours-requires
 ours-requires c κs = search needs
 
-judge-requires : tie.Need-judge-requires
-judge-requires c κs = (c .before .before .before .table .ensures, subst Modest (sym (c .before .before .ours .ensures)) ours-modest, refl)
-
-cast-refused-at : tie.Need-cast-refused-at
-cast-refused-at c = search needs
-
-refused-at-requires : tie.Need-refused-at-requires
-refused-at-requires c κs = search needs
+answer-requires : tie.Need-answer-requires
+answer-requires c κs = subst Modest (sym (c .ours .ensures)) ours-modest
 
 returns : tie.Need-returns
-returns c =
-    let s = c .before .before .before .before .before .before .before .before .before .before .args .circuit .now in
-    c .refused-at .ensures
-    ∙ answer-refused _ s (c .before .before .before .before .judge .result) _ (c .before .before .before .before .judge .ensures) (c .before .before .if1 .taken)
-    ∙ ap (λ (limits : Limits). answerAt limits s) (c .before .before .before .before .before .before .before .ours .ensures)
-
-accepted-with-requires : tie.Need-accepted-with-requires
-accepted-with-requires c κs = search needs
-
-returns-2 : tie.Need-returns-2
-returns-2 c =
-    let s = c .before .before .before .before .before .before .before .before .before .before .args .circuit .now in
-    c .accepted-with .ensures
-    ∙ answer-accepted _ s (c .before .before .before .before .judge .result) _ (c .before .before .before .before .judge .ensures) (c .before .before .if1 .left)
-    ∙ ap (λ (limits : Limits). answerAt limits s) (c .before .before .before .before .before .before .before .ours .ensures)
+returns c = subst (λ (limits : Limits). c .answer .result ≡ answerAt limits (c .before .before .before .args .circuit .now)) (c .before .ours .ensures) (c .answer .ensures)
 
 pub check-spec : {M : Type 1} → statement M
-check-spec =
-    tie.close
-    (tie.spec
-    table-requires
-    ours-requires
-    judge-requires
-    cast-refused-at
-    refused-at-requires
-    returns
-    accepted-with-requires
-    returns-2)
+check-spec = tie.close (tie.spec ours-requires answer-requires returns)

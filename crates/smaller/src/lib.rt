@@ -1,0 +1,1 @@
+// What smaller limits change: definitions and theorems alone, no functions.
