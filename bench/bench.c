@@ -22,6 +22,8 @@ static size_t words_of(const subject *on) { return SERIFDOVE_RECORD_WORDS(on->c-
 
 static void check(const side *by, subject *on) { told(by->check(on->c->bytes, on->length)); }
 
+static void check_profile(const side *by, subject *on) { told(by->check_profile(on->c->bytes, on->length)); }
+
 static void cold_start(const side *by, subject *on) { told(by->cold_start(on->c->bytes, on->length, on->record, words_of(on))); }
 
 static void warm_start(const side *by, subject *on) { told(by->warm_start(on->c->bytes, on->length, on->record, words_of(on))); }
@@ -134,8 +136,13 @@ static const struct {
     const char *name;
     task *what;
 } calls[] = {
-    {"check", check}, {"cold start", cold_start}, {"warm start", warm_start},
-    {"latch", latch}, {"run", run_turn},          {"publish", publish},
+    {"check", check},
+    {"check for 0BA6", check_profile},
+    {"cold start", cold_start},
+    {"warm start", warm_start},
+    {"latch", latch},
+    {"run", run_turn},
+    {"publish", publish},
 };
 
 enum { CALLS = sizeof calls / sizeof *calls };

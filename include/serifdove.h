@@ -81,6 +81,28 @@ typedef struct {
    A null pointer with length 0 is an empty circuit. How much stack it was measured to take: docs/PERFORMANCE.md. */
 serifdove_answer serifdove_check(const uint8_t *circuit, size_t length);
 
+/* ---- the older series, 0BA6: what a circuit may have at most to fit it; all else is as in any circuit */
+
+enum serifdove_0ba6 {
+    /* blocks */
+    SERIFDOVE_0BA6_BLOCKS = 200,
+    /* Q1 to Q16, AQ1 and AQ2, as a row's destination */
+    SERIFDOVE_0BA6_Q = 16,
+    SERIFDOVE_0BA6_AQ = 2,
+    /* M1 to M27, AM1 to AM6, as a row's destination and in connectors */
+    SERIFDOVE_0BA6_M = 27,
+    SERIFDOVE_0BA6_AM = 6
+};
+
+/* Checks whether a circuit fits the series 0BA6: as serifdove_check, with all that is said there of its answer, its slice and its
+   threads, but against these limits. More than 200 blocks are 4, a connector to M28 to M64 or AM7 to AM64 is 6, such a destination,
+   Q17 to Q20 or AQ3 to AQ8 is 9.
+   What it accepts, serifdove_check accepts with the same answer. No other call asks for the series: scans and rows are the same,
+   whichever check a circuit was judged by. Where serifdove_check accepts and this refuses, its number is 4, with place 0, or 6 or 9,
+   with the place of the first field that does not fit. Where serifdove_check refuses, this refuses too, perhaps an earlier field or
+   with another number. */
+serifdove_answer serifdove_check_profile(const uint8_t *circuit, size_t length);
+
 /* ---- the run record: what the host keeps between calls, as signed words */
 
 enum serifdove_limit {

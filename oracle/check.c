@@ -5,6 +5,7 @@
 #include <string.h>
 
 const oracle_limits oracle_limits_of_document_01 = {.n = 400, .q = 20, .aq = 8, .m = 64, .am = 64};
+const oracle_limits oracle_limits_of_0ba6 = {.n = 200, .q = 16, .aq = 2, .m = 27, .am = 6};
 
 /* ---- sets of small numbers: bit k stands for k */
 
@@ -319,4 +320,8 @@ serifdove_answer oracle_check_within(const oracle_limits *limits, const uint8_t 
 
 serifdove_answer oracle_check(const uint8_t *circuit, size_t length) {
     return oracle_check_within(&oracle_limits_of_document_01, circuit, length);
+}
+
+serifdove_answer oracle_check_profile(const uint8_t *circuit, size_t length) {
+    return oracle_check_within(&oracle_limits_of_0ba6, circuit, length);
 }

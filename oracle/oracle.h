@@ -14,12 +14,15 @@ typedef struct {
 } oracle_limits;
 
 extern const oracle_limits oracle_limits_of_document_01;
+extern const oracle_limits oracle_limits_of_0ba6; /* document 02, No. 4 */
 
 /* Checks a circuit against these limits. */
 serifdove_answer oracle_check_within(const oracle_limits *limits, const uint8_t *circuit, size_t length);
 
-/* What serifdove_check must answer, and what each call on a record must answer and leave in record and outputs. */
+/* What serifdove_check and serifdove_check_profile must answer, and what each call on a record must answer and leave in record and
+   outputs. */
 serifdove_answer oracle_check(const uint8_t *circuit, size_t length);
+serifdove_answer oracle_check_profile(const uint8_t *circuit, size_t length);
 serifdove_answer oracle_cold_start(const uint8_t *circuit, size_t circuit_len, int32_t *record, size_t record_len);
 serifdove_answer oracle_warm_start(const uint8_t *circuit, size_t circuit_len, int32_t *record, size_t record_len);
 serifdove_answer oracle_latch(const uint8_t *circuit, size_t circuit_len, int32_t *record, size_t record_len, const int32_t *inputs,

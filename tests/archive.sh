@@ -7,8 +7,8 @@ tools=${cc%gcc}
 
 exported=$("${tools}nm" --defined-only --extern-only "$archive" | awk 'NF == 3 { print $3 }' | sort | tr '\n' ' ')
 echo "archive: exports ${exported}"
-calls="serifdove_check serifdove_cold_start serifdove_latch serifdove_publish serifdove_read_rows serifdove_run serifdove_warm_start "
-calls+="serifdove_write_rows "
+calls="serifdove_check serifdove_check_profile serifdove_cold_start serifdove_latch serifdove_publish serifdove_read_rows serifdove_run "
+calls+="serifdove_warm_start serifdove_write_rows "
 [ "$exported" = "$calls" ] || { echo "archive: expected $calls" && exit 1; }
 
 outside=$("${tools}nm" --undefined-only "$archive" | awk 'NF == 2 { print $2 }' | sort -u | tr '\n' ' ')

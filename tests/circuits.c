@@ -119,7 +119,7 @@ void add_label(circuit *c, const uint8_t *text, size_t length) {
         memcpy(at + 3, text, length);
 }
 
-static void put_connector(uint8_t *at, unsigned class, unsigned number) {
+void put_connector(uint8_t *at, unsigned class, unsigned number) {
     at[0] = (uint8_t)class;
     put_two(at + 1, number);
 }
@@ -176,31 +176,43 @@ int32_t ticks_of(const circuit *c, unsigned number, unsigned i) {
 
 int32_t actual_of(int32_t input, int32_t a, int32_t b) { return input * a / 100 + b; }
 
-void destination_of(unsigned k, unsigned *class, unsigned *number) {
-    static const unsigned room[5] = {0, 20, 64, 8, 64};
+/* How many destinations of each class there are; M and AM go as far in connectors. */
+typedef unsigned rooms[5];
+
+static const rooms all_rooms = {0, 20, 64, 8, 64}, rooms_of_0ba6 = {0, 16, 27, 2, 6};
+
+static void destination_within(const rooms room, unsigned k, unsigned *class, unsigned *number) {
     *class = 1;
     while (k >= room[*class])
         k -= room[(*class)++];
     *number = k + 1;
 }
 
-/* ---- by chance: from all that is allowed, or lively */
+void destination_of(unsigned k, unsigned *class, unsigned *number) { destination_within(all_rooms, k, class, number); }
+
+/* ---- by chance: from all that is allowed, lively, or from what fits 0BA6 */
+
+typedef struct {
+    bool lively;
+    const unsigned *room; /* all_rooms or rooms_of_0ba6 */
+} manner;
 
 /* The number of a connector of this class. */
-static unsigned random_number(chance *with, unsigned class, bool lively) {
-    static const unsigned greatest[10] = {[1] = 24, [4] = 64, [7] = 8, [8] = 64}, few[5] = {1, 2, 3, 4, 8};
-    if (greatest[class] == 0)
+static unsigned random_number(chance *with, unsigned class, const manner *in) {
+    static const unsigned few[5] = {1, 2, 3, 4, 8};
+    const unsigned greatest = class == 1 ? 24 : class == 4 ? in->room[2] : class == 7 ? 8 : class == 8 ? in->room[4] : 0;
+    if (greatest == 0)
         return 0;
-    if (lively && !once_in(with, 8))
+    if (in->lively && !once_in(with, 8))
         return few[below(with, 5)];
-    return (unsigned)between(with, 1, (int32_t)greatest[class]);
+    return (unsigned)between(with, 1, (int32_t)greatest);
 }
 
 /* A connector that is allowed at an input of this sort, or as such a row's source. Blocks up to `blocks` may be named. */
-static void put_random_connector(const circuit *c, chance *with, uint8_t *at, bool digital, bool unused_allowed, bool lively) {
+static void put_random_connector(const circuit *c, chance *with, uint8_t *at, bool digital, bool unused_allowed, const manner *in) {
     static const unsigned digital_classes[] = {6, 1, 2, 3, 4, 0}, analog_classes[] = {9, 7, 8};
     unsigned class = digital ? digital_classes[below(with, unused_allowed ? 6 : 5)] : analog_classes[below(with, 3)];
-    if (lively && (class == 2 || class == 3) && !once_in(with, 4))
+    if (in->lively && (class == 2 || class == 3) && !once_in(with, 4))
         class = 1;
     if (class == 6 || class == 9) {
         const unsigned named = c->blocks == 0 ? 0 : 1 + below(with, c->blocks);
@@ -210,7 +222,7 @@ static void put_random_connector(const circuit *c, chance *with, uint8_t *at, bo
         }
         class = digital ? 1 : 8;
     }
-    const unsigned number = random_number(with, class, lively);
+    const unsigned number = random_number(with, class, in);
     put_connector(at, digital && class != 0 && once_in(with, 2) ? class + 0x80 : class, number);
 }
 
@@ -276,16 +288,16 @@ static void put_lively_connector(chance *with, unsigned kind, uint8_t *first) {
         put_connector(first, once_in(with, 2) ? 1 : 0x81, 1 + below(with, 4));
 }
 
-static void add_random_block(circuit *c, chance *with, unsigned kind, bool lively) {
+static void add_random_block(circuit *c, chance *with, unsigned kind, const manner *in) {
     uint8_t connectors[4][3];
     int32_t values[4] = {0, 0, 0, 0};
     for (unsigned i = 0; i < inputs_of(kind); i++)
-        put_random_connector(c, with, connectors[i], shapes[kind].inputs[i] == 'd', true, lively);
-    if (lively && !once_in(with, 3))
+        put_random_connector(c, with, connectors[i], shapes[kind].inputs[i] == 'd', true, in);
+    if (in->lively && !once_in(with, 3))
         put_lively_connector(with, kind, connectors[0]);
     uint8_t *at = add_block(c, kind, shapes[kind].retentive ? below(with, 2) : 0);
     memcpy(at + input_at(0), connectors, 3 * inputs_of(kind));
-    if (lively)
+    if (in->lively)
         lively_parameters(with, kind, values);
     else
         random_parameters(with, kind, values);
@@ -318,44 +330,49 @@ static void few_first(unsigned *order) {
 }
 
 /* So many rows, each with a destination of its own. */
-static void add_random_rows(circuit *c, chance *with, unsigned rows, bool lively) {
+static void add_random_rows(circuit *c, chance *with, unsigned rows, const manner *in) {
+    const unsigned destinations = in->room[1] + in->room[2] + in->room[3] + in->room[4];
     unsigned order[DESTINATIONS];
-    for (unsigned k = 0; k < DESTINATIONS; k++)
+    for (unsigned k = 0; k < destinations; k++)
         order[k] = k;
-    if (lively)
+    if (in->lively)
         few_first(order);
     for (unsigned k = 0; k < rows; k++) {
-        const bool of_few = lively && k < FEW && !once_in(with, 4);
-        const unsigned other = k + below(with, (of_few ? FEW : DESTINATIONS) - k), taken = order[other];
+        const bool of_few = in->lively && k < FEW && !once_in(with, 4);
+        const unsigned other = k + below(with, (of_few ? FEW : destinations) - k), taken = order[other];
         unsigned class, number;
         order[other] = order[k];
         order[k] = taken;
-        destination_of(taken, &class, &number);
+        destination_within(in->room, taken, &class, &number);
         add_row(c, class, number, 0, 0);
-        put_random_connector(c, with, c->bytes + c->length - 3, class <= 2, false, lively);
+        put_random_connector(c, with, c->bytes + c->length - 3, class <= 2, false, in);
     }
 }
 
-static void make_circuit(circuit *c, chance *with, unsigned n, unsigned rows, unsigned last_kind, bool lively) {
+static void make_circuit(circuit *c, chance *with, unsigned n, unsigned rows, unsigned last_kind, const manner *in) {
     begin_circuit(c, n);
     for (unsigned k = 1; k <= n; k++) {
         unsigned kind = k == n && last_kind != 0 ? last_kind : 1 + below(with, KINDS);
         if (kind == 12 && c->registers == 4)
             kind = 15;
-        add_random_block(c, with, kind, lively);
+        add_random_block(c, with, kind, in);
         if (once_in(with, 2))
             add_random_label(c, with);
     }
-    add_random_rows(c, with, rows, lively);
+    add_random_rows(c, with, rows, in);
     end_circuit(c);
 }
 
 void random_circuit(circuit *c, chance *with, unsigned n, unsigned rows, unsigned last_kind) {
-    make_circuit(c, with, n, rows, last_kind, false);
+    make_circuit(c, with, n, rows, last_kind, &(manner){false, all_rooms});
 }
 
 void lively_circuit(circuit *c, chance *with, unsigned n, unsigned rows, unsigned last_kind) {
-    make_circuit(c, with, n, rows, last_kind, true);
+    make_circuit(c, with, n, rows, last_kind, &(manner){true, all_rooms});
+}
+
+void fitting_circuit(circuit *c, chance *with, unsigned n, unsigned rows, unsigned last_kind) {
+    make_circuit(c, with, n, rows, last_kind, &(manner){false, rooms_of_0ba6});
 }
 
 /* ---- the bench's circuits */

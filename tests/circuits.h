@@ -69,6 +69,7 @@ typedef struct {
 
 void put_two(uint8_t *at, unsigned number);
 void put_four(uint8_t *at, int32_t number);
+void put_connector(uint8_t *at, unsigned class, unsigned number);
 
 void begin_circuit(circuit *c, unsigned n); /* the header */
 void add_label(circuit *c, const uint8_t *text, size_t length);
@@ -96,6 +97,9 @@ void random_circuit(circuit *c, chance *with, unsigned n, unsigned rows, unsigne
 
 /* Likewise, with few inputs and flags, short settings, and thresholds near what they judge or count: in its scans much happens. */
 void lively_circuit(circuit *c, chance *with, unsigned n, unsigned rows, unsigned last_kind);
+
+/* As random_circuit, and it fits the series 0BA6: n up to 200, rows up to 51. */
+void fitting_circuit(circuit *c, chance *with, unsigned n, unsigned rows, unsigned last_kind);
 
 /* An accepted circuit with n blocks, all kinds in turn, labels of 16 bytes, and a row for each destination if there are blocks.
    Each block names the one before it where the sort allows. There are four shift registers; OR stands for further ones. */

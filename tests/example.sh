@@ -85,7 +85,7 @@ for ((k = 1; k <= $(blocks c); k++)); do
     python3 -c 'import sys; sys.exit(not sys.argv[1] or sys.argv[1] not in open("docs/example.c").read())' "$(block c $k)" || wrong "$page: its C block $k does not stand in docs/example.c"
 done
 
-for name in $(grep -o 'SERIFDOVE_[A-Z_]*' $header | sort -u | grep -v -x SERIFDOVE_H); do
+for name in $(grep -o 'SERIFDOVE_[A-Z0-9_]*' $header | sort -u | grep -v -x SERIFDOVE_H); do
     grep -q "$name\b" $page || wrong "$page does not name $name"
 done
 numbers=$(sed -n '/^enum serifdove_number/,/^}/s/^ *\(SERIFDOVE_[A-Z_]*\) = \([0-9]*\).*/\2 \1/p' $header | grep -v '^0 ')

@@ -1,6 +1,6 @@
 #!/usr/bin/env bash
-# The gateway program as a user meets it: every command, every sort of bad word, circuit and file, a look between two blocks, a trace that is
-# played again, in a pipe and at a terminal.
+# The gateway program as a user meets it: every command, every sort of bad word, circuit and file, circuits for the older series, a look
+# between two blocks, a trace that is played again, in a pipe and at a terminal. And what docs/OPERATING.md shows of the older series.
 source "$(dirname "${BASH_SOURCE[0]}")/host.bash"
 need_programs
 here=$PWD
@@ -49,6 +49,13 @@ for wrong in 0 -1 4294967296 2x ''; do
 done
 complains 2 '--turn needs a number of blocks, 1 to 4294967295, or all' x --turn
 complains 2 '--script needs the name' x --script
+# the series, before any circuit is read
+complains 2 'gateway: --series needs the name of a series: 0BA6' there_is_none --series
+for wrong in 0BA7 0BA 0BA66 BA6 there_is_none ''; do
+    complains 2 "gateway: there is no series \`$wrong\` here; expected is 0BA6" --series "$wrong" there_is_none
+done
+complains 2 'usage: gateway CIRCUIT' --series 0BA6
+complains 2 'there_is_none cannot be opened: No such file or directory; a file with a circuit is expected' there_is_none --series 0BA6
 complains 2 'there_is_none cannot be opened: No such file or directory; a file with a circuit is expected' there_is_none
 complains 2 '. is not a file; a file with a circuit is expected' .
 head -c 65537 /dev/zero >"$work/long"
@@ -60,12 +67,14 @@ complains 2 'the script . cannot be opened: it is a folder; a file with commands
 head=010003010001 block=10000e0100010001010002000000000000 row=300005010106 end=7f0000
 good=$head$block${row}0001$end
 refused=0
-# refuses NUMBER PLACE HEX TEXT
+# refuses NUMBER PLACE HEX TEXT: with a series it is told the same
 refuses() {
     bytes "$3" bad
     complains 2 "  Refusal $1 at byte $2: " bad
     complains 2 "$4" bad
     complains 2 "^^ byte $2" bad
+    cp "$work/err" "$work/complaints"
+    says 2 bad --series 0BA6 </dev/null
     refused=$((refused + 1))
 }
 refuses 1 31 "$head$block${row}0001" 'The bytes end here, after 31 of them.'
@@ -101,6 +110,8 @@ refuses 9 31 "$head$block${row}0001${row}0001$end" 'there are Q1 to Q20, M1 to M
 register=1000130c000000000000000000000000000100000001
 refuses 10 28 "010003010002$register$register$end" 'give each shift register an index of its own'
 refuses 11 34 "${good}00" 'bytes follow the end field'
+# block 1 reads M28, which does not fit the series, and block 2 names itself
+refuses 7 14 "010003010002100005080004001c1000050800060002$end" 'There begins a block (tag 10), block 2, kind 8, NOT'
 complains 2 '  Refusal 1 at byte 0: ' empty
 complains 2 'The bytes end here, after 0 of them.' empty
 echo "gateway: $refused refused circuits, each with number, place, bytes and what to do"
@@ -212,6 +223,213 @@ says 0 yard --turn 2 <"$work/yard.script"
 sed 's/$/\r/' "$work/yard.script" >"$work/yard.crlf"
 says 0 yard --turn 2 --script yard.crlf </dev/null
 echo "gateway: a dialogue of $(grep -c '^[a-z]' "$work/yard.script") commands, as worked out by hand"
+
+# ---- the older series: with --series a circuit that fits runs the same, and tells the same but for its first line; the order of options is free
+sed -i '1s/; cold start$/; fits 0BA6; cold start/' "$work/expected"
+says 0 --series 0BA6 yard --turn 2 --script yard.script </dev/null
+says 0 yard --series 0ba6 --turn 2 <"$work/yard.script"
+says 0 --turn 2 --series 0Ba6 --script yard.script yard </dev/null
+{ echo 'trace any.trace' && cat "$work/yard.script"; } | (cd "$work" && run "$here/$gateway" yard --turn 2) >"$work/out" || wrong "no trace: $(cat "$work/out")"
+{ echo 'trace fits.trace' && cat "$work/yard.script"; } | (cd "$work" && run "$here/$gateway" yard --turn 2 --series 0BA6) >"$work/out" || wrong "no trace: $(cat "$work/out")"
+[ "$(grep -c '^<' "$work/any.trace")" -ge 40 ] && cmp "$work/any.trace" "$work/fits.trace" || wrong "with --series it makes other calls"
+
+# exactly at each limit: 200 blocks, M27, AM6, Q16, AQ2; all else as far as it goes in any circuit
+{
+    printf '16,1,0,4,1,4,27,132,27,129,24,1,sixteen bytes...\n16,14,0,8,6,7,8,100,0,5,5,0,\n16,15,0,4,27,132,27,0,0,1,2,3,4,0,\n'
+    printf '16,12,1,4,27,4,26,0,0,%d,8,0,\n' 1 2 3 4
+    printf '16,17,1,4,27,1,1,0,0,5,4,0,\n16,18,1,4,27,2,5999,300,200,0,\n'
+    printf '16,8,0,6,%d,0,\n' {9..199}
+    printf '48,1,16,6,200\n48,2,27,4,27\n48,3,2,9,3\n48,4,6,8,6\n'
+} >"$work/limits.csv"
+make_circuit "$work/limits.csv" "$work/limits"
+printf '' >"$work/complaints"
+for name in limits limits.csv; do
+    echo "circuit: $name, $(wc -c <"$work/limits") bytes, 200 blocks, 4 rows; fits 0BA6; cold start" >"$work/expected"
+    says 0 $name --series 0BA6 </dev/null
+done
+
+# one above: told to the byte, of a circuit's bytes and of rows
+lower='take a lower flag that is free (not M8, which is 1 in the first scan), in the row that writes it and wherever it is read; or split the circuit.'
+other='take a lower output or flag that is free (not M8, which is 1 in the first scan), a flag wherever it is read too; or split the circuit.'
+printf '' >"$work/expected"
+misfits=0
+# one_above NUMBER BYTE WORDS RANGE COLUMNS CELLS ROW..: these rows, of which the last does not fit; its field begins at the byte
+one_above() {
+    local row=${*: -1} before count=$(($# - 6)) meaning='the flag that a connector names' cure=$lower
+    [ "$1" -eq 6 ] || meaning="the row's destination" cure=$other
+    before=${row%%"$6"*}
+    printf '%s\n' "${@:7}" >"$work/misfit.csv"
+    make_circuit "$work/misfit.csv" "$work/misfit"
+    cat >"$work/complaints" <<END
+gateway: the circuit in misfit does not fit 0BA6; without --series it is accepted.
+  Refusal $1 at byte $2: 0BA6 has not $meaning.
+  It is $3; 0BA6 has $4.
+  What to do: $cure
+END
+    says 2 misfit --series 0BA6 </dev/null
+    cat >"$work/complaints" <<END
+gateway: the circuit of the rows in misfit.csv does not fit 0BA6; without --series it is accepted.
+  Refusal $1 at row $count (line $count of the file): 0BA6 has not $meaning.
+  It is $3; 0BA6 has $4.
+  Cells $5: \`$6\`; expected is $4.
+    $row
+    ${before//?/ }${6//?/^}
+  What to do: $cure
+END
+    says 2 misfit.csv --series 0BA6 </dev/null
+    misfits=$((misfits + 1))
+}
+first='4 and 5, input 1 class and input 1 number' from='4 and 5, connector class and connector number' to='2 and 3, destination class and destination number'
+one_above 6 6 'block 1, kind 8, NOT: its input 1 is M28' 'M1 to M27' "$first" 4,28 16,8,0,4,28,0,
+one_above 6 14 'block 2, kind 8, NOT, label `Door 3, north`: its input 1 is !M64' 'M1 to M27' "$first" 132,64 16,8,0,132,27,0, '16,8,0,132,64,1,"Door 3, north"'
+one_above 6 6 'block 1, kind 1, AND: its input 2 is M28' 'M1 to M27' '6 and 7, input 2 class and input 2 number' 4,28 16,1,0,4,27,4,28,4,27,0,0,1,
+one_above 6 20 'block 2, kind 10, off-delay, label `lane`: its input R is M28' 'M1 to M27' '6 and 7, R class and R number' 4,28 16,8,0,4,27,1,abc 16,10,0,4,27,4,28,0,300,1,lane
+one_above 6 6 'block 1, kind 12, shift register: its input Dir is !M28' 'M1 to M27' '8 and 9, Dir class and Dir number' 132,28 16,12,0,1,1,4,27,132,28,1,8,0,
+one_above 6 6 'block 1, kind 13, threshold trigger: its input Ax is AM64' 'AM1 to AM6' '4 and 5, Ax class and Ax number' 8,64 16,13,0,8,64,100,0,5,5,0,
+one_above 6 6 'block 1, kind 14, comparator: its input Ay is AM7' 'AM1 to AM6' '6 and 7, Ay class and Ay number' 8,7 16,14,0,8,6,8,7,100,0,5,5,0,
+one_above 6 6 'the output row to Q1: its connector is M28' 'M1 to M27' "$from" 4,28 48,1,1,4,28
+one_above 6 14 'the output row to M27: its connector is !M28' 'M1 to M27' "$from" 132,28 48,1,16,132,27 48,2,27,132,28
+one_above 6 6 'the output row to AM6: its connector is AM7' 'AM1 to AM6' "$from" 8,7 48,4,6,8,7
+one_above 9 14 'the output row to Q17' 'Q1 to Q16' "$to" 1,17 16,8,0,0,0,0, 48,1,17,6,1
+one_above 9 6 'the output row to Q20' 'Q1 to Q16' "$to" 1,20 48,1,20,3,0
+one_above 9 6 'the output row to M28' 'M1 to M27' "$to" 2,28 48,2,28,1,24
+one_above 9 6 'the output row to AQ3' 'AQ1 and AQ2' "$to" 3,3 48,3,3,7,8
+one_above 9 6 'the output row to AM7' 'AM1 to AM6' "$to" 4,7 48,4,7,8,6
+
+# above 200 blocks, with the row where block 201 stands; one more place that does not fit
+{ printf '16,8,0,0,0,1,"two\nlines"\n' && printf '16,8,0,0,0,1,%s\n' b{2..201} && printf '48,1,16,6,1\n48,1,17,6,1\n'; } >"$work/many.csv"
+make_circuit "$work/many.csv" "$work/many"
+cat >"$work/complaints" <<'END'
+gateway: the circuit in many does not fit 0BA6; without --series it is accepted.
+  Refusal 4 at byte 0: 0BA6 has not so many blocks.
+  The header says 201 blocks; 0BA6 has at most 200.
+  1 more place does not fit:
+    byte 2928: the output row to Q17; 0BA6 has Q1 to Q16
+  What to do: leave blocks out, or split the circuit.
+END
+says 2 many --series 0BA6 </dev/null
+cat >"$work/complaints" <<'END'
+gateway: the circuit of the rows in many.csv does not fit 0BA6; without --series it is accepted.
+  Refusal 4 at byte 0 of the circuit: 0BA6 has not so many blocks.
+  0BA6 has at most 200 blocks.
+  There are 201 blocks; block 201 stands in row 201 (line 202 of the file).
+    16,8,0,0,0,1,b201
+  1 more place does not fit:
+    row 203 (line 204 of the file): the output row to Q17; 0BA6 has Q1 to Q16
+  What to do: leave blocks out, or split the circuit.
+END
+says 2 many.csv --series 0BA6 </dev/null
+
+# many places that do not fit, two of them in some fields: the first is told, then how many more, five of those by name
+cat >"$work/several.csv" <<'END'
+16,8,0,1,1,1,"two
+lines"
+16,10,1,6,1,132,28,0,300,1,"lane 4, ü"
+16,1,0,4,29,4,27,4,64,0,0,0,
+16,14,0,8,6,8,7,100,0,5,5,0,
+48,1,16,6,2
+48,1,17,4,30
+48,2,28,6,2
+48,4,7,8,9
+48,3,3,7,1
+48,2,27,4,27
+END
+make_circuit "$work/several.csv" "$work/several"
+cat >"$work/complaints" <<END
+gateway: the circuit in several does not fit 0BA6; without --series it is accepted.
+  Refusal 6 at byte 26: 0BA6 has not the flag that a connector names.
+  It is block 2, kind 10, off-delay, label \`lane 4, \xc3\xbc\`: its input R is !M28; 0BA6 has M1 to M27.
+  9 more places do not fit:
+    byte 58: block 3, kind 1, AND: its input 1 is M29; 0BA6 has M1 to M27
+    byte 58: block 3, kind 1, AND: its input 3 is M64; 0BA6 has M1 to M27
+    byte 75: block 4, kind 14, comparator: its input Ay is AM7; 0BA6 has AM1 to AM6
+    byte 110: the output row to Q17: its connector is M30; 0BA6 has M1 to M27
+    byte 110: the output row to Q17; 0BA6 has Q1 to Q16
+    and 4 more
+  What to do: $lower
+END
+says 2 several --series 0BA6 </dev/null
+# of rows: as many as are named, then one more
+head -n 7 "$work/several.csv" >"$work/six.csv"
+cat >"$work/complaints" <<END
+gateway: the circuit of the rows in six.csv does not fit 0BA6; without --series it is accepted.
+  Refusal 6 at row 2 (line 3 of the file): 0BA6 has not the flag that a connector names.
+  It is block 2, kind 10, off-delay, label \`lane 4, \xc3\xbc\`: its input R is !M28; 0BA6 has M1 to M27.
+  Cells 6 and 7, R class and R number: \`132,28\`; expected is M1 to M27.
+    16,10,1,6,1,132,28,0,300,1,"lane 4, \xc3\xbc"
+                ^^^^^^
+  5 more places do not fit:
+    row 3 (line 4 of the file): block 3, kind 1, AND: its input 1 is M29; 0BA6 has M1 to M27
+    row 3 (line 4 of the file): block 3, kind 1, AND: its input 3 is M64; 0BA6 has M1 to M27
+    row 4 (line 5 of the file): block 4, kind 14, comparator: its input Ay is AM7; 0BA6 has AM1 to AM6
+    row 6 (line 7 of the file): the output row to Q17: its connector is M30; 0BA6 has M1 to M27
+    row 6 (line 7 of the file): the output row to Q17; 0BA6 has Q1 to Q16
+  What to do: $lower
+END
+says 2 six.csv --series 0BA6 </dev/null
+head -n 8 "$work/several.csv" >"$work/seven.csv"
+sed -i 's/six\.csv/seven.csv/; s/^  5 more places/  6 more places/; s/^  What to do/    and 1 more\n&/' "$work/complaints"
+says 2 seven.csv --series 0BA6 </dev/null
+for name in misfit many several seven.csv; do
+    printf 'quit\n' | (cd "$work" && run "$here/$gateway" $name) >"$work/out" 2>"$work/err" || wrong "$name without --series: $(cat "$work/err")"
+    [ ! -s "$work/err" ] && grep -q "^circuit: $name, .* rows*; cold start\$" "$work/out" || wrong "$name without --series: $(cat "$work/out" "$work/err")"
+done
+echo "gateway: circuits at each limit of the older series and $misfits just above one, many misfits; as bytes and as rows"
+
+# The library decides. Where its answer is none that is found here, only that is told; where it accepts, the gateway begins.
+cat >"$work/told.c" <<'END'
+#include "serifdove.h"
+#include <stdlib.h>
+serifdove_answer told_profile(const uint8_t *circuit, size_t length);
+serifdove_answer told_profile(const uint8_t *circuit, size_t length) {
+    (void)circuit, (void)length;
+    return (serifdove_answer){(size_t)atoi(getenv("NUMBER")), (size_t)atoi(getenv("PLACE")), 0, 0};
+}
+END
+build_c "$work/told" -Dserifdove_check_profile=told_profile "$work/told.c" $gateway_sources
+# told NUMBER PLACE FILE: what the gateway tells, if the library answers so
+told() {
+    (cd "$work" && NUMBER=$1 PLACE=$2 run ./told "$3" --series 0BA6 </dev/null >out 2>err)
+}
+while read -r number place where words; do
+    for name in several several.csv; do
+        told "$number" "$place" $name
+        [ $? -eq 2 ] && [ "$(wc -l <"$work/err")" -eq 3 ] && grep -q '^  What to do: ..*\.$' "$work/err" || wrong "told $number $place of $name: $(cat "$work/err")"
+        [ $name = several ] && at="byte $place" || at=${where//_/ }
+        grep -qxF "  Refusal $number at $at: $words." "$work/err" || wrong "told $number $place of $name: $(cat "$work/err")"
+    done
+done <<'END'
+4 0 byte_0_of_the_circuit 0BA6 has not so many blocks
+6 6 row_1_(line_1_of_the_file) 0BA6 has not the flag that a connector names
+6 58 row_3_(line_4_of_the_file) 0BA6 has not the flag that a connector names
+9 26 row_2_(line_3_of_the_file) 0BA6 has not the row's destination
+9 118 row_7_(line_8_of_the_file) 0BA6 has not the row's destination
+8 26 row_2_(line_3_of_the_file) a parameter is out of range, or times are not in order
+1 65535 byte_65535_of_the_circuit the bytes end inside a field or before the end field
+99 0 byte_0_of_the_circuit this number is none of the list
+END
+told 6 26 several
+grep -q '^  It is block 2, .*: its input R is !M28; ' "$work/err" && grep -q '^  9 more places do not fit:$' "$work/err" || wrong "the library's answer is not told: $(cat "$work/err")"
+told 0 0 several
+[ $? -eq 0 ] && [ ! -s "$work/err" ] && grep -q '; fits 0BA6; cold start$' "$work/out" || wrong "the library accepts: $(cat "$work/out" "$work/err")"
+echo "gateway: where it finds no such misfit itself, only the library's answer is told"
+
+# the page: what it shows of the series is what the program prints
+awk '$0 == "```csv" { inside = 1; next } $0 == "```" { inside = 0 } inside' docs/OPERATING.md >"$work/door.csv"
+awk '$0 == "```series" { inside = 1; next } $0 == "```" { inside = 0 } inside' docs/OPERATING.md >"$work/shown"
+mkdir -p "$work/target/host" || exit 2
+printf '#!/usr/bin/env bash\nexec %s %s "$@"\n' "${runner[*]}" "$here/$gateway" >"$work/$gateway"
+chmod +x "$work/$gateway"
+while IFS= read -r line; do
+    [ "${line:0:2}" != '$ ' ] || { echo "$line" && (cd "$work" && bash -c "${line:2}") 2>&1 </dev/null; }
+done <"$work/shown" >"$work/printed"
+diff "$work/shown" "$work/printed" && [ "$(grep -c '^\$ .*--series' "$work/shown")" -ge 2 ] || wrong "docs/OPERATING.md: the gateway tells of the series otherwise"
+# and its limits are the header's
+sed -n 's/^| .* | .*[^0-9]\([0-9]*\) | `\(SERIFDOVE_0BA6_[A-Z]*\)` |$/_Static_assert(\2 == \1, "\2");/p' docs/OPERATING.md >"$work/limits.c"
+[ "$(sort -u "$work/limits.c" | wc -l)" -eq 5 ] || wrong "docs/OPERATING.md has not the five limits of the series"
+sed -i '1i #include "serifdove.h"' "$work/limits.c"
+$cc -std=c11 $warnings -Iinclude -fsyntax-only "$work/limits.c" || wrong "docs/OPERATING.md has other limits than include/serifdove.h"
+echo "gateway: docs/OPERATING.md on the series"
 
 # ---- up/down counters and stairway switches, worked out by hand: what look tells of their words
 cat >"$work/tower.csv" <<'END'
@@ -743,5 +961,5 @@ python3 "$work/broken.py" "${runner[@]}" $gateway "$work/yard" >"$work/out" 2>"$
 [ $? -eq 1 ] && grep -q 'latch: e 1 ' "$work/out" && ! grep -q 'run: ' "$work/out" && grep -q 'the commands cannot be read any further' "$work/err" ||
     wrong "half a line: $(cat "$work/out" "$work/err")"
 for word in --help -h; do
-    run $gateway $word | grep -q '^usage: gateway CIRCUIT' || wrong "it has no help"
+    run $gateway $word >"$work/out" && grep -q '^usage: gateway CIRCUIT' "$work/out" && grep -q '^  --series 0BA6 ' "$work/out" || wrong "it has no help"
 done

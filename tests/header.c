@@ -1,5 +1,5 @@
-/* A host in C11 or C++17, with nothing but the header: document 01's circuit of 34 bytes, checked, run for a scan, written out as rows
-   and read again. */
+/* A host in C11 or C++17, with nothing but the header: document 01's circuit of 34 bytes, checked, checked for 0BA6, run for a scan,
+   written out as rows and read again. */
 #include "serifdove.h"
 
 #include <assert.h>
@@ -28,6 +28,9 @@ static_assert(SERIFDOVE_AQ(1) == 20 && SERIFDOVE_AQ(7 + 1) == 27, "AQ");
 
 /* ---- the numbers of document 02 */
 
+static_assert(SERIFDOVE_0BA6_BLOCKS == 200, "blocks of 0BA6");
+static_assert(SERIFDOVE_0BA6_Q == 16 && SERIFDOVE_0BA6_AQ == 2, "outputs of 0BA6");
+static_assert(SERIFDOVE_0BA6_M == 27 && SERIFDOVE_0BA6_AM == 6, "flags of 0BA6");
 static_assert(SERIFDOVE_QUOTE == 30 && SERIFDOVE_TAG_KIND_OR_COLUMNS == 31 && SERIFDOVE_NUMBER_OR_LABEL == 32, "rows");
 static_assert(SERIFDOVE_NO_ROOM == 33 && SERIFDOVE_TOO_MANY_BLOCKS == 34, "all rows");
 
@@ -60,6 +63,21 @@ static void check_it(void) {
     expect("accepted", serifdove_check(circuit, sizeof circuit), SERIFDOVE_ACCEPTED, 0, 1, 1);
     expect("cut", serifdove_check(circuit, sizeof circuit - 1), SERIFDOVE_CUT_SHORT, 31, 0, 0);
     expect("null", serifdove_check(NULL, 0), SERIFDOVE_CUT_SHORT, 0, 0, 0);
+}
+
+/* With Q16 and with Q17 in place of Q1. */
+static void check_it_for_0ba6(void) {
+    static uint8_t other[sizeof circuit];
+    const size_t row = 23, destination = row + 4;
+    memcpy(other, circuit, sizeof circuit);
+    expect("0BA6, accepted", serifdove_check_profile(circuit, sizeof circuit), SERIFDOVE_ACCEPTED, 0, 1, 1);
+    expect("0BA6, cut", serifdove_check_profile(circuit, sizeof circuit - 1), SERIFDOVE_CUT_SHORT, 31, 0, 0);
+    expect("0BA6, null", serifdove_check_profile(NULL, 0), SERIFDOVE_CUT_SHORT, 0, 0, 0);
+    other[destination] = SERIFDOVE_0BA6_Q;
+    expect("0BA6, Q16", serifdove_check_profile(other, sizeof other), SERIFDOVE_ACCEPTED, 0, 1, 1);
+    other[destination] = SERIFDOVE_0BA6_Q + 1;
+    expect("0BA6, Q17", serifdove_check_profile(other, sizeof other), SERIFDOVE_DESTINATION, row, 0, 0);
+    expect("Q17", serifdove_check(other, sizeof other), SERIFDOVE_ACCEPTED, 0, 1, 1);
 }
 
 static void start_it(void) {
@@ -136,6 +154,7 @@ static void read_too_many(void) {
 int main(void) {
     memset(outputs, -1, sizeof outputs);
     check_it();
+    check_it_for_0ba6();
     start_it();
     scan_it();
     write_and_read_it();

@@ -92,7 +92,7 @@ build_c() {
 # The host's programs, made in target/host.
 replay=target/host/replay
 replay_sources="host/replay.c host/trace.c"
-circuit_file="host/circuit_file.c host/row_text.c host/refusals.c host/circuit.c host/files.c"
+circuit_file="host/circuit_file.c host/series.c host/row_text.c host/refusals.c host/circuit.c host/files.c"
 rows=target/host/rows
 rows_sources="host/rows.c $circuit_file"
 gateway=target/host/gateway
@@ -142,7 +142,7 @@ build_demo() {
 # build_by_oracle OUT FILE..: a program of these C files, with the oracle's calls for the archive's
 build_by_oracle() {
     local call by_the_oracle=()
-    for call in check cold_start warm_start latch run publish read_rows write_rows; do
+    for call in check check_profile cold_start warm_start latch run publish read_rows write_rows; do
         by_the_oracle+=("-Dserifdove_$call=oracle_$call")
     done
     $cc -std=c11 $warnings -O2 -Iinclude -Ioracle "${by_the_oracle[@]}" -o "$1" "${@:2}" $oracle || exit 1

@@ -2,12 +2,14 @@
    finds the row, and tells a cell or the row as a whole. What is printed is plain text, and no line of it is long. What the library
    accepts is not changed by trimming, and trimming twice is trimming once. Where check refuses what was read, row and cells are told.
    Where a comma parts a block behind its kind and before its label, and empty cells stand behind it, the trimmed row is refused, or it
-   is the block as it was.
+   is the block as it was. Of a circuit that does not fit the older series (host/series.c) the message tells the row, what is first in
+   it that does not fit, and as many more places as have to be mended until the library accepts it.
 
    row_messages SEED COUNT */
 #define _POSIX_C_SOURCE 200809L
 #include "../host/circuit.h"
 #include "../host/row_text.h"
+#include "../host/series.h"
 
 #include <stdlib.h>
 #include <string.h>
@@ -104,6 +106,25 @@ static void judge_lines(const char *told, size_t count) {
     }
 }
 
+static char *told;
+static size_t told_count;
+
+static FILE *begin_message(void) {
+    FILE *to = open_memstream(&told, &told_count);
+    if (to == NULL)
+        exit(2);
+    return to;
+}
+
+/* What is told ends here; the caller frees it. */
+static void end_message(FILE *to) {
+    if (fclose(to) != 0)
+        exit(2);
+    judge_lines(told, told_count);
+}
+
+static bool is_told_first(const char *expected) { return strncmp(told, expected, strlen(expected)) == 0; }
+
 /* On which line the row begins: the rows before it are good, so a quote opens or closes where it stands. */
 static size_t line_of(size_t row) {
     size_t line = 1, rows = 1;
@@ -117,42 +138,33 @@ static size_t line_of(size_t row) {
 }
 
 static void judge_message(serifdove_answer answer) {
-    char *told = NULL, expected[80];
-    size_t count = 0;
-    FILE *to = open_memstream(&told, &count);
-    if (to == NULL)
-        exit(2);
+    char expected[80];
+    FILE *to = begin_message();
     tell_refused_rows(to, answer, text, length);
-    if (fclose(to) != 0)
-        exit(2);
+    end_message(to);
     snprintf(expected, sizeof expected, "  Refusal %zu at row %zu (line %zu of the file): ", answer.number, answer.place,
              line_of(answer.place));
-    if (strncmp(told, expected, strlen(expected)) != 0)
+    if (!is_told_first(expected))
         mismatch("the row, or what is wrong with it, is not found");
     if (strstr(told, "\n  Cell ") == NULL && strstr(told, "\n  The row: ") == NULL)
         mismatch("neither a cell nor the row is told");
-    judge_lines(told, count);
     free(told);
 }
 
 /* The message on a circuit that was read from the text and that check refuses: with the cells, but for 4. */
 static void judge_circuit(const uint8_t *bytes, size_t count) {
     const serifdove_answer answer = serifdove_check(bytes, count);
-    char *told = NULL, expected[80];
-    size_t told_count = 0;
+    char expected[80];
     if (answer.number == SERIFDOVE_ACCEPTED)
         return;
-    FILE *to = open_memstream(&told, &told_count);
-    if (to == NULL)
-        exit(2);
-    tell_refused_circuit_of_rows(to, answer, bytes, count, text, length);
-    fclose(to);
+    FILE *to = begin_message();
+    tell_refused_circuit_of_rows(to, answer, &(circuit_source){bytes, count, text, length});
+    end_message(to);
     snprintf(expected, sizeof expected, "  Refusal %zu at row ", answer.number);
-    if (strncmp(told, expected, strlen(expected)) != 0)
+    if (!is_told_first(expected))
         mismatch("the row that check refuses is not found");
     if ((strstr(told, "\n  Cell") == NULL) != (answer.number == SERIFDOVE_NUMBER_OF_BLOCKS))
         mismatch("the cells that check refuses are not told");
-    judge_lines(told, told_count);
     free(told);
     checked[answer.number]++;
 }
@@ -213,15 +225,175 @@ static unsigned part_and_trim(void) {
     return 1;
 }
 
+/* ---- the older series */
+
+enum { FIRST_CONNECTOR = FIELD_HEAD + 2, CONNECTOR_BYTES = 3, ROW_BYTES = FIELD_HEAD + 5, ANALOG = 7 };
+
+static const series *older;
+static size_t fitting, mended;
+static size_t misfits_of_kind[KINDS + 1], misfits_of_rows[SERIFDOVE_SURPLUS_BYTES + 1]; /* what was refused first, by kind or number */
+
+/* The cells of a connector, most often to a flag, which is often near the last that the series has. */
+static void add_connector(bool analog) {
+    char cells[24];
+    const bool is_flag = below(4) > 0;
+    const unsigned class = analog ? (is_flag ? 8 : 7) : is_flag ? 4 : 1, inverted = !analog && below(3) == 0 ? 128 : 0;
+    const unsigned of_series = analog ? SERIFDOVE_0BA6_AM : SERIFDOVE_0BA6_M;
+    const unsigned limit = !is_flag ? ANALOG_INPUTS : below(2) == 0 ? FLAGS : of_series + 1;
+    snprintf(cells, sizeof cells, ",%u,%u", class + inverted, 1 + below(limit));
+    add(cells);
+}
+
+static void add_block(void) {
+    const unsigned number = 1 + below(KINDS);
+    const kind *k = kind_of(number);
+    char head[16];
+    snprintf(head, sizeof head, "16,%u,0", number);
+    add(head);
+    for (size_t i = 0; i < count_of(k->inputs); i++)
+        add_connector(k->inputs[i][0] == 'A');
+    for (size_t i = 0; i < count_of(k->parameters); i++)
+        add(",1");
+    add(below(2) == 0 ? ",0,\n" : ",1,\"a\nb\"\n");
+}
+
+static void add_output_row(void) {
+    static const unsigned most[] = {[TO_Q] = DIGITAL_OUTPUTS, [TO_M] = FLAGS, [TO_AQ] = ANALOG_OUTPUTS, [TO_AM] = FLAGS};
+    const unsigned class = TO_Q + below(TO_AM);
+    char head[16];
+    snprintf(head, sizeof head, "48,%u,%u", class, 1 + below(most[class]));
+    add(head);
+    add_connector(class >= TO_AQ);
+    add("\n");
+}
+
+static bool is_refused_so(serifdove_answer answer, const uint8_t *circuit, size_t count) {
+    const serifdove_answer again = serifdove_check_profile(circuit, count);
+    return again.number == answer.number && again.place == answer.place;
+}
+
+/* Puts hi or AI1 for it. */
+static void make_harmless(uint8_t *connector) {
+    static const uint8_t hi[CONNECTOR_BYTES] = {3}, analog_input[CONNECTOR_BYTES] = {ANALOG, 0, 1};
+    memcpy(connector, (connector[0] & 0x7F) >= ANALOG ? analog_input : hi, CONNECTOR_BYTES);
+}
+
+/* Which connector of the field is the first that the profile refuses: with those from it on harmless it answers otherwise. */
+static size_t refused_connector(serifdove_answer answer, const uint8_t *circuit, size_t count) {
+    static uint8_t copy[ROOM];
+    const uint8_t *field = circuit + answer.place;
+    size_t i = field[0] == BLOCK_TAG ? count_of(kind_of(field[FIELD_HEAD])->inputs) : 1;
+    memcpy(copy, circuit, count);
+    while (i > 0 && is_refused_so(answer, copy, count))
+        make_harmless(copy + answer.place + FIRST_CONNECTOR + CONNECTOR_BYTES * --i);
+    return i;
+}
+
+/* How many places the library alone finds: each that it refuses is made harmless, or its row is taken away. */
+static size_t count_misfits(uint8_t *circuit, size_t count) {
+    size_t misfits = 0;
+    for (serifdove_answer answer; (answer = serifdove_check_profile(circuit, count)).number != SERIFDOVE_ACCEPTED; misfits++) {
+        uint8_t *field = circuit + answer.place;
+        if (misfits == MOST_TEXT || answer.place + ROW_BYTES > count)
+            mismatch("what does not fit cannot be mended");
+        if (answer.number == SERIFDOVE_DESTINATION) {
+            count -= ROW_BYTES;
+            memmove(field, field + ROW_BYTES, count - answer.place);
+        } else {
+            make_harmless(field + FIRST_CONNECTOR + CONNECTOR_BYTES * refused_connector(answer, circuit, count));
+        }
+    }
+    return misfits;
+}
+
+/* From which row the field at this place was read. */
+static size_t row_at(const uint8_t *circuit, size_t place) {
+    size_t row = 1;
+    for (size_t at = 0; at < place; at += FIELD_HEAD + content_length(circuit + at))
+        row += circuit[at] == BLOCK_TAG || circuit[at] == ROW_TAG;
+    return row;
+}
+
+/* "its input R is !M28; ", "its connector is AM7; ", "the output row to Q17; ": what is refused first. */
+static void name_first(serifdove_answer answer, const uint8_t *circuit, size_t count, char *words, size_t room) {
+    static const char *const destinations[] = {"", "Q", "M", "AQ", "AM"}, *const numbers[] = {"1", "2", "3", "4"};
+    const uint8_t *field = circuit + answer.place;
+    if (answer.number == SERIFDOVE_DESTINATION) {
+        snprintf(words, room, "the output row to %s%u; ", destinations[field[FIELD_HEAD]], field[FIELD_HEAD + 1]);
+        misfits_of_rows[answer.number]++;
+        return;
+    }
+    const size_t i = refused_connector(answer, circuit, count);
+    const uint8_t *connector = field + FIRST_CONNECTOR + CONNECTOR_BYTES * i;
+    const bool in_block = field[0] == BLOCK_TAG;
+    const char *input = in_block ? kind_of(field[FIELD_HEAD])->inputs[i] : "";
+    snprintf(words, room, "its %s%s is %s%s%u; ", in_block ? "input " : "connector", in_block && *input == 0 ? numbers[i] : input,
+             connector[0] >= 0x80 ? "!" : "", connector[0] == ANALOG + 1 ? "AM" : "M", connector[2]);
+    ++*(in_block ? &misfits_of_kind[field[FIELD_HEAD]] : &misfits_of_rows[answer.number]);
+}
+
+static void judge_misfit(serifdove_answer answer, uint8_t *circuit, size_t count) {
+    char expected[80], first[80];
+    size_t others = 0;
+    FILE *to = begin_message();
+    tell_misfit(to, older, answer, &(circuit_source){circuit, count, text, length});
+    end_message(to);
+    const size_t row = row_at(circuit, answer.place);
+    snprintf(expected, sizeof expected, "  Refusal %zu at row %zu (line %zu of the file): 0BA6 has not ", answer.number, row,
+             line_of(row));
+    const char *its_line = strstr(told, "\n  It is "), *cells = strstr(told, "\n  Cells "), *more = strstr(told, " more place");
+    if (!is_told_first(expected) || its_line == NULL || cells == NULL)
+        mismatch("the place that does not fit is not told with its row and cells");
+    name_first(answer, circuit, count, first, sizeof first);
+    const char *named = strstr(its_line, first);
+    if (named == NULL || named > cells)
+        mismatch("the place that does not fit is not named");
+    while (more != NULL && *more != '\n')
+        more--;
+    if (more != NULL)
+        others = strtoul(more, NULL, 10);
+    if (1 + others != count_misfits(circuit, count))
+        mismatch("another number of places does not fit than is told");
+    mended += 1 + others;
+    free(told);
+}
+
+/* A circuit of flags by chance, which check accepts most often: if it does not fit, what is told of it. */
+static void try_series(uint8_t *circuit) {
+    length = 0;
+    for (unsigned blocks = below(4); blocks > 0; blocks--)
+        add_block();
+    for (unsigned rows = below(5); rows > 0; rows--)
+        add_output_row();
+    const size_t count = serifdove_read_rows(text, length, circuit, ROOM).first;
+    if (serifdove_check(circuit, count).number != SERIFDOVE_ACCEPTED)
+        return;
+    const serifdove_answer answer = serifdove_check_profile(circuit, count);
+    if (answer.number == SERIFDOVE_ACCEPTED)
+        fitting++;
+    else
+        judge_misfit(answer, circuit, count);
+}
+
+/* True if something came of every sort. */
+static bool has_all_misfits(void) {
+    size_t least = fitting;
+    for (size_t k = 1; k <= KINDS; k++)
+        least = misfits_of_kind[k] < least ? misfits_of_kind[k] : least;
+    return least > 0 && misfits_of_rows[SERIFDOVE_CONNECTOR] > 0 && misfits_of_rows[SERIFDOVE_DESTINATION] > 0;
+}
+
 int main(int count, char **words) {
     static uint8_t circuit[ROOM];
+    message why;
     size_t parted[3] = {0};
     size_t accepted = 0, refused[3] = {0};
-    if (count != 3)
+    if (count != 3 || !read_series("0BA6", &older, &why))
         return 2;
     state = strtoull(words[1], NULL, 10);
     for (unsigned long texts = strtoul(words[2], NULL, 10); texts > 0; texts--) {
         parted[part_and_trim()]++;
+        try_series(circuit);
         make_text();
         const serifdove_answer answer = serifdove_read_rows(text, length, circuit, sizeof circuit);
         accepted += answer.number == SERIFDOVE_ACCEPTED;
@@ -235,7 +407,8 @@ int main(int count, char **words) {
         refused[answer.number - SERIFDOVE_QUOTE]++;
         judge_message(answer);
     }
-    if (accepted == 0 || refused[0] == 0 || refused[1] == 0 || refused[2] == 0 || parted[0] == 0 || parted[1] == 0)
+    if (accepted == 0 || refused[0] == 0 || refused[1] == 0 || refused[2] == 0 || parted[0] == 0 || parted[1] == 0 ||
+        !has_all_misfits())
         mismatch("an answer never came");
     for (size_t number = SERIFDOVE_NUMBER_OF_BLOCKS; number <= SERIFDOVE_INDEX_USED_TWICE; number++)
         if (checked[number] == 0)
@@ -243,5 +416,6 @@ int main(int count, char **words) {
     printf("row_messages: %zu texts accepted, %zu refused by 30, %zu by 31, %zu by 32, each told\n", accepted, refused[0], refused[1],
            refused[2]);
     printf("row_messages: %zu blocks parted by a comma and trimmed are refused, %zu are as they were\n", parted[0], parted[1]);
+    printf("row_messages: %zu circuits fit the older series; in others %zu places do not, as many as are told\n", fitting, mended);
     return 0;
 }

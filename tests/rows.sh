@@ -105,7 +105,7 @@ echo "rows: all kinds, 26 labels of any bytes, 400 blocks and 156 output rows ($
 
 # ---- words, names and files that are not as expected
 printf '' >"$work/expected"
-run $rows --help >"$work/help" && run $rows -h | cmp - "$work/help" && grep -q '^usage: rows CSV CIRCUIT$' "$work/help" || wrong "it has no help"
+run $rows --help >"$work/help" && run $rows -h | cmp - "$work/help" && grep -q '^usage: rows CSV CIRCUIT \[--series 0BA6\]$' "$work/help" || wrong "it has no help"
 for words in '' 'all.csv' 'all.csv x y' '--back' '--back made' '--back made x.csv y' '--trim all.csv' '--help x' '--bak made x.csv' 'all.csv -x'; do
     complains 2 'usage: rows CSV CIRCUIT' $words
 done
@@ -360,14 +360,58 @@ for circuit in 5:1:'16,8,1,0,0,0,' 6:1:'48,1,1,6,1' 8:1:'16,9,0,1,1,0,10000,0,' 
 done
 echo "rows: $tried rows with a fault, each told with row, cell and what is expected"
 
+# ---- the older series: a circuit that fits is written as ever, wherever the option stands; one that does not is told, and no file is touched
+printf '16,8,0,4,27,0,\r\n48,1,16,6,1\r\n' >"$work/fitting.csv"
+printf '16,8,0,4,28,0,\n48,1,16,6,1\n' >"$work/misfit.csv"
+in_work $rows fitting.csv plain && in_work $rows misfit.csv misfit || wrong "without --series they are refused: $(cat "$work/err")"
+printf '' >"$work/complaints"
+echo 'fitted: 25 bytes, 1 block, 1 output row; fits 0BA6' >"$work/expected"
+for words in '--series 0BA6 fitting.csv fitted' 'fitting.csv --series 0ba6 fitted' 'fitting.csv fitted --series 0BA6'; do
+    says 0 $words
+    cmp "$work/plain" "$work/fitted" && rm "$work/fitted" || wrong "with --series the circuit has other bytes: $words"
+done
+echo 'fitted.csv: 29 bytes, 2 rows; fits 0BA6' >"$work/expected"
+for words in '--series 0BA6 --back plain fitted.csv' '--back --series 0ba6 plain fitted.csv' '--back plain fitted.csv --series 0BA6'; do
+    says 0 $words
+    cmp "$work/fitting.csv" "$work/fitted.csv" && rm "$work/fitted.csv" || wrong "with --series other rows are written: $words"
+done
+cat >"$work/complaints" <<'END'
+rows: the circuit of the rows in misfit.csv does not fit 0BA6; without --series it is accepted.
+  Refusal 6 at row 1 (line 1 of the file): 0BA6 has not the flag that a connector names.
+  It is block 1, kind 8, NOT: its input 1 is M28; 0BA6 has M1 to M27.
+  Cells 4 and 5, input 1 class and input 1 number: `4,28`; expected is M1 to M27.
+    16,8,0,4,28,0,
+           ^^^^
+  What to do: take a lower flag that is free (not M8, which is 1 in the first scan), in the row that writes it and wherever it is read; or split the circuit.
+END
+printf '' >"$work/expected"
+says 1 misfit.csv made --series 0BA6
+cmp "$work/all.circuit" "$work/made" || wrong "a circuit is replaced though it does not fit"
+complains 1 'rows: the circuit in misfit does not fit 0BA6; without --series it is accepted.' --back misfit x.csv --series 0BA6
+grep -q '^  Refusal 6 at byte 6: ' "$work/err" && [ ! -e "$work/x.csv" ] || wrong "the rows of a circuit that does not fit: $(cat "$work/err")"
+complains 2 'rows: --series needs the name of a series: 0BA6' there_is_none.csv x --series
+complains 2 'rows: there is no series `there_is_none.csv` here; expected is 0BA6' --series there_is_none.csv x
+complains 2 'rows: --series does not go with --trim, which judges no circuit' --trim all.csv x.csv --series 0BA6
+for words in '--series 0BA6' 'all.csv --series 0BA6' '--series 0BA6 --back made'; do
+    complains 2 'usage: rows CSV CIRCUIT' $words
+done
+[ ! -e "$work/x" ] && [ ! -e "$work/x.csv" ] || wrong "a file is made by a command that is not as expected"
+echo "rows: circuits that fit the older series, and that do not"
+
 # ---- what the message says where the library's answer is none that is found here
 cat >"$work/told.c" <<'END'
 #include "serifdove.h"
 #include <stdlib.h>
 serifdove_answer told_read_rows(const uint8_t *text, size_t text_len, uint8_t *circuit, size_t circuit_len);
+serifdove_answer told_profile(const uint8_t *circuit, size_t length);
+static serifdove_answer told(void) { return (serifdove_answer){(size_t)atoi(getenv("NUMBER")), (size_t)atoi(getenv("PLACE")), 0, 0}; }
 serifdove_answer told_read_rows(const uint8_t *text, size_t text_len, uint8_t *circuit, size_t circuit_len) {
     (void)text, (void)text_len, (void)circuit, (void)circuit_len;
-    return (serifdove_answer){(size_t)atoi(getenv("NUMBER")), (size_t)atoi(getenv("PLACE")), 0, 0};
+    return told();
+}
+serifdove_answer told_profile(const uint8_t *circuit, size_t length) {
+    (void)circuit, (void)length;
+    return told();
 }
 END
 build_c "$work/told" -Dserifdove_read_rows=told_read_rows "$work/told.c" $rows_sources
@@ -382,11 +426,14 @@ done
 grep -q '^  The row: it has 6 cells; expected are 7: ' "$work/err" || wrong "the library's answer is not told: $(cat "$work/err")"
 echo "rows: where the reader of messages disagrees, only the library's answer is told"
 
-# ---- texts by chance: the row is always found, and a cell or the row told; first it is tried whether a wrong answer would be
-row_messages="tests/row_messages.c host/row_text.c host/refusals.c host/circuit.c host/files.c"
+# ---- texts by chance: the row is always found, and a cell or the row told; first it is tried whether wrong answers would be found
+row_messages="tests/row_messages.c host/series.c host/row_text.c host/refusals.c host/circuit.c host/files.c"
 build_c "$work/wrong_messages" -Dserifdove_read_rows=told_read_rows "$work/told.c" $row_messages
 NUMBER=32 PLACE=1 run "$work/wrong_messages" 1 100 >"$work/out"
 [ $? -eq 1 ] && grep -q '^row_messages: mismatch: ' "$work/out" || wrong "a wrong row is not found: $(cat "$work/out")"
+build_c "$work/wrong_messages" -Dserifdove_check_profile=told_profile "$work/told.c" $row_messages
+NUMBER=9 PLACE=6 run "$work/wrong_messages" 1 100 >"$work/out"
+[ $? -eq 1 ] && grep -q '^row_messages: mismatch: the place that does not fit' "$work/out" || wrong "a wrong place is not found: $(cat "$work/out")"
 build_c "$work/messages" $row_messages
 run "$work/messages" 1 20000 || exit 1
 
@@ -443,6 +490,8 @@ for name in number open later early blocks; do
     sed 's/^rows: /gateway: /' "$work/err" >"$work/complaints"
     in_work $gateway $name.csv
     [ $? -eq 2 ] && [ ! -s "$work/out" ] && diff "$work/complaints" "$work/err" || wrong "the gateway tells $name.csv otherwise"
+    in_work $gateway $name.csv --series 0BA6
+    [ $? -eq 2 ] && [ ! -s "$work/out" ] && diff "$work/complaints" "$work/err" || wrong "with --series the gateway tells $name.csv otherwise"
 done
 in_work $gateway there_is_none.csv
 [ $? -eq 2 ] && grep -q '^gateway: there_is_none.csv cannot be opened: No such file or directory; a file with a text of rows is expected$' "$work/err" || wrong "the gateway: $(cat "$work/err")"

@@ -3,10 +3,10 @@
 #include "oracle.h"
 
 const side sides[SIDES] = {
-    [ARCHIVE] = {"archive", serifdove_check, serifdove_cold_start, serifdove_warm_start, serifdove_latch, serifdove_run,
-                 serifdove_publish, serifdove_read_rows, serifdove_write_rows},
-    [ORACLE] = {"oracle", oracle_check, oracle_cold_start, oracle_warm_start, oracle_latch, oracle_run, oracle_publish,
-                oracle_read_rows, oracle_write_rows},
+    [ARCHIVE] = {"archive", serifdove_check, serifdove_check_profile, serifdove_cold_start, serifdove_warm_start, serifdove_latch,
+                 serifdove_run, serifdove_publish, serifdove_read_rows, serifdove_write_rows},
+    [ORACLE] = {"oracle", oracle_check, oracle_check_profile, oracle_cold_start, oracle_warm_start, oracle_latch, oracle_run,
+                oracle_publish, oracle_read_rows, oracle_write_rows},
 };
 
 void put_calls(side *to, const side *from) {

@@ -18,7 +18,7 @@ typedef serifdove_answer rows_function(const uint8_t *from, size_t from_len, uin
 
 typedef struct {
     const char *name;
-    check_function *check;
+    check_function *check, *check_profile;
     start_function *cold_start, *warm_start;
     latch_function *latch;
     run_function *run;

@@ -68,6 +68,8 @@ int main(int count, char **names) {
         serifdove_answer answer = oracle_check(circuit, circuit_len);
         printf("%s ", names[i]);
         print_answer(answer);
+        printf("%s 0BA6 ", names[i]);
+        print_answer(oracle_check_profile(circuit, circuit_len));
         if (answer.number != 0)
             continue;
         record_len = SERIFDOVE_RECORD_WORDS(answer.first);

@@ -1,5 +1,5 @@
 #!/usr/bin/env python3
-"""The stored circuits of crates/cases: how each is made, and the answer that this gives, written by hand.
+"""The stored circuits of crates/cases: how each is made, and what check and the check for 0BA6 answer, written by hand.
 stored_circuits.py FOLDER: writes them to FOLDER/data, and FOLDER/args, FOLDER/stdout and FOLDER/nine_scans beside."""
 import os
 import sys
@@ -88,8 +88,10 @@ one_of_each = [
 ]
 destinations = [(1, k) for k in range(1, 21)] + [(2, k) for k in range(1, 65)] + [(3, k) for k in range(1, 9)] + [(4, k) for k in range(1, 65)]
 all_rows = b"".join(row(c, k, (3, 0) if c <= 2 else (8, 1)) for c, k in destinations)
+most_of_0ba6 = {1: 16, 2: 27, 3: 2, 4: 6}
+all_rows_of_0ba6 = b"".join(row(c, k, {1: (4, 27), 2: (6, 200)}.get(c, (8, 6))) for c, k in destinations if k <= most_of_0ba6[c])
 
-# name, circuit, number, place, first, second
+# name, circuit, number, place, first, second; where 0BA6 has another answer, its number and place
 cases = [
     # document 01's own
     ("empty", b"", 1, 0, 0, 0),
@@ -98,13 +100,13 @@ cases = [
     ("above_n", header(1) + and_of((6, 2), i2) + row(1, 1, (6, 1)) + end, 6, 6, 0, 0),
     ("hours_5999", header(1) + on_delay(2, 5999) + end, 0, 0, 1, 0),
     ("hours_6000", header(1) + on_delay(2, 6000) + end, 8, 6, 0, 0),
-    ("n_400", header(400) + and_of(i1) * 400 + end, 0, 0, 400, 0),
+    ("n_400", header(400) + and_of(i1) * 400 + end, 0, 0, 400, 0, 4, 0),
     ("n_401", header(401) + end, 4, 0, 0, 0),
     # accepted
     ("no_blocks", header(0) + end, 0, 0, 0, 0),
-    ("all_kinds", header(18) + b"".join(one_of_each) + row(1, 20, (6, 16)) + row(3, 8, (9, 15)) + row(1, 18, (6, 18)) + end, 0, 0, 18, 3),
+    ("all_kinds", header(18) + b"".join(one_of_each) + row(1, 20, (6, 16)) + row(3, 8, (9, 15)) + row(1, 18, (6, 18)) + end, 0, 0, 18, 3, 6, 57),
     ("labels", header(2) + and_of(i1) + label(b"") + not_of((6, 1)) + label(bytes(range(16))) + end, 0, 0, 2, 0),
-    ("all_destinations", header(0) + all_rows + end, 0, 0, 0, 156),
+    ("all_destinations", header(0) + all_rows + end, 0, 0, 0, 156, 9, 134),
     ("four_registers", header(4) + register(3, 1) + register(1, 8) + register(4, 1) + register(2, 1) + end, 0, 0, 4, 0),
     ("counter_5", header(1) + counter(5, 5) + row(1, 1, (6, 1)) + end, 0, 0, 1, 1),
     ("stairway_6_3_2", header(1) + stairway(0, 6, 3, 2) + row(1, 1, (6, 1)) + end, 0, 0, 1, 1),
@@ -198,6 +200,30 @@ cases = [
     ("circuit_behind", document_01 + document_01, 11, 34, 0, 0),
     # the first field with a fault
     ("parameter_before_tag", header(2) + on_delay(3, 0) + b"\x00\x00\x00" + end, 8, 6, 0, 0),
+    # the limits of 0BA6: accepted
+    ("series_n_200", header(200) + not_of(i1) * 200 + end, 0, 0, 200, 0),
+    ("series_q16", header(0) + row(1, 16, i1) + end, 0, 0, 0, 1),
+    ("series_aq2", header(0) + row(3, 2, ai1) + end, 0, 0, 0, 1),
+    ("series_m27", header(1) + not_of((4, 27)) + row(2, 27, (6, 1)) + row(1, 1, (0x84, 27)) + end, 0, 0, 1, 2),
+    ("series_am6", header(1) + trigger((8, 6)) + row(4, 6, ai1) + row(3, 1, (8, 6)) + end, 0, 0, 1, 2),
+    ("series_all_limits", header(200) + not_of(i1) * 200 + all_rows_of_0ba6 + end, 0, 0, 200, 51),
+    # one more of each
+    ("series_n_201", header(201) + not_of(i1) * 201 + end, 0, 0, 201, 0, 4, 0),
+    ("series_q17", header(0) + row(1, 16, i1) + row(1, 17, i1) + end, 0, 0, 0, 2, 9, 14),
+    ("series_aq3", header(0) + row(3, 3, ai1) + row(3, 2, ai1) + end, 0, 0, 0, 2, 9, 6),
+    ("series_m28", header(1) + not_of(i1) + row(2, 27, i1) + row(2, 28, (6, 1)) + end, 0, 0, 1, 2, 9, 22),
+    ("series_m28_at_a_block", header(2) + not_of((4, 27)) + and_of(i1, i2, (6, 1), (4, 28)) + end, 0, 0, 2, 0, 6, 14),
+    ("series_m28_at_a_row", header(0) + row(1, 1, (4, 27)) + row(2, 1, (0x84, 28)) + end, 0, 0, 0, 2, 6, 14),
+    ("series_am7", header(0) + row(4, 7, ai1) + end, 0, 0, 0, 1, 9, 6),
+    ("series_am7_at_a_block", header(1) + block(14, [(8, 6), (8, 7)], [100, 0, 0, 0]) + end, 0, 0, 1, 0, 6, 6),
+    ("series_am7_at_a_row", header(0) + row(4, 6, (8, 7)) + end, 0, 0, 0, 1, 6, 6),
+    # two things of a field do not fit: the lowest number
+    ("series_q17_from_m28", header(0) + row(1, 17, (4, 28)) + end, 0, 0, 0, 1, 6, 6),
+    ("series_m28_from_m28", header(0) + row(2, 28, (4, 28)) + end, 0, 0, 0, 1, 6, 6),
+    # refused by both: an earlier field, a lower number, another place
+    ("series_m28_before_q21", header(1) + not_of((4, 28)) + row(1, 21, i1) + end, 9, 14, 0, 0, 6, 6),
+    ("series_unknown_class_from_m28", header(0) + row(5, 1, (4, 28)) + end, 9, 6, 0, 0, 6, 6),
+    ("series_n_201_blocks_missing", header(201) + end, 4, 6, 0, 0, 4, 0),
 ]
 
 # Q1 in nine scans, a tick apart: I1 is 1 in the first two, I2 in the first, the third, .. the ninth
@@ -205,7 +231,12 @@ nine_scans = {
     "counter_5": "0 0 0 0 0 0 0 0 1",  # the fifth rise; 4 give 0
     "stairway_6_3_2": "1 1 1 1 1 0 0 1 0",
     "off_delay_held": "1 0 0 0 0 0 0 0 0",  # R goes in the third, the fifth, .. : no rise
+    "series_m27": "1 0 1 0 1 0 1 0 1",  # the opposite of M27, which is the opposite of itself a scan before
 }
+
+
+def line(name, answer):
+    return " ".join([name] + [str(number) for number in answer]) + "\n"
 
 
 def main():
@@ -216,7 +247,9 @@ def main():
     assert len(document_01) == 34
     for number in range(1, 12):
         assert sum(case[2] == number for case in cases) >= 3, number
-    for name, circuit, *answer in cases:
+    for number in (4, 6, 9):
+        assert sum(case[6:7] == (number,) for case in cases) >= 3, number
+    for name, circuit, *answers in cases:
         with open(os.path.join(folder, "data", name), "wb") as f:
             f.write(circuit)
     with open(os.path.join(folder, "args"), "w") as f:
@@ -224,7 +257,9 @@ def main():
     with open(os.path.join(folder, "nine_scans"), "w") as f:
         f.write("".join(name + " nine scans: Q1 " + nine_scans[name] + "\n" for name in names if name in nine_scans))
     with open(os.path.join(folder, "stdout"), "w") as f:
-        f.write("".join(" ".join([case[0]] + [str(number) for number in case[2:]]) + "\n" for case in cases))
+        for name, circuit, *answers in cases:
+            of_0ba6 = answers[4:] + [0, 0] if answers[4:] else answers
+            f.write(line(name, answers[:4]) + line(name + " 0BA6", of_0ba6))
 
 
 if __name__ == "__main__":

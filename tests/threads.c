@@ -116,6 +116,10 @@ static serifdove_answer both_on_rows(play *p) {
     return answer;
 }
 
+static serifdove_answer some_check(const play *p, chance *with) {
+    return (once_in(with, 2) ? calls.check_profile : calls.check)(p->on->bytes, p->on->length);
+}
+
 /* Most often the call that suits the phase, in turns of any length. */
 static serifdove_answer some_call(play *p, chance *with) {
     const uint8_t *bytes = p->on->bytes;
@@ -123,7 +127,7 @@ static serifdove_answer some_call(play *p, chance *with) {
     const bool in_scan = p->record[SERIFDOVE_PHASE] == 1, done = p->record[SERIFDOVE_DONE] == (int32_t)p->on->n;
     switch (below(with, 16)) {
     case 0:
-        return once_in(with, 4) ? both_on_rows(p) : calls.check(bytes, length);
+        return once_in(with, 4) ? both_on_rows(p) : some_check(p, with);
     case 1:
         return calls.warm_start(bytes, length, p->record, words);
     case 2:

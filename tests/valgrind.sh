@@ -1,6 +1,6 @@
 #!/usr/bin/env bash
 # The host's programs under valgrind, on x86-64: the player on the stored trace, the gateway with every command, with circuits that are
-# refused and files that are no record, the reader of rows on good and bad ones. No byte that is not theirs is read or written, no word that was never set is used, no memory is
+# refused and files that are no record, the reader of rows on good and bad ones, both with a series. No byte that is not theirs is read or written, no word that was never set is used, no memory is
 # lost. First it is tried whether a fault would be found.
 source "$(dirname "${BASH_SOURCE[0]}")/host.bash"
 [ "$emulated" = no ] || { echo "valgrind: only on x86-64" && exit 0; }
@@ -227,4 +227,15 @@ watched 2 "$here/$rows" missing.csv x
 watched 2 "$here/$rows" bad.csv x.csv
 watched 2 "$here/$rows" --back missing x.csv
 watched 2 "$here/$rows" --back harbour.circuit harbour.csv
+
+# ---- the series 0BA6: what fits it, and what does not, as bytes and as rows
+watched 0 "$here/$gateway" "$here/crates/cases/data/series_all_limits" --series 0BA6 </dev/null
+for circuit in n_400 all_destinations all_kinds series_m28_at_a_block series_q17_from_m28; do
+    watched 2 "$here/$gateway" "$here/crates/cases/data/$circuit" --series 0BA6 </dev/null
+    watched 0 "$here/$rows" --back "$here/crates/cases/data/$circuit" $circuit.csv
+    watched 2 "$here/$gateway" $circuit.csv --series 0BA6 </dev/null
+    watched 1 "$here/$rows" $circuit.csv $circuit.circuit --series 0BA6
+done
+watched 2 "$here/$gateway" harbour.circuit --series 0BA7 </dev/null
+watched 2 "$here/$rows" --series
 echo "valgrind: $runs runs, nothing found"
