@@ -79,23 +79,31 @@ static void lay_out_block(block *to, const uint8_t *at) {
         to->parameters[i] = four_at(at);
 }
 
+static void lay_out_row(output_row *to, const uint8_t *at) {
+    *to = (output_row){.class = at[0], .number = at[1], .from = connector_at(at + 2)};
+}
+
 void lay_out(circuit *to, const uint8_t *bytes, size_t length) {
     to->length = length;
     to->n = to->rows = 0;
     for (size_t at = 0; at < length; at += FIELD_HEAD + content_length(bytes + at))
         if (bytes[at] == BLOCK_TAG) {
             lay_out_block(&to->block[++to->n], bytes + at + FIELD_HEAD);
+            to->block[to->n].place = at;
         } else if (bytes[at] == LABEL_TAG) {
             to->block[to->n].label = bytes + at + FIELD_HEAD;
             to->block[to->n].label_length = content_length(bytes + at);
         } else if (bytes[at] == ROW_TAG) {
-            to->rows++;
+            lay_out_row(&to->row[to->rows], bytes + at + FIELD_HEAD);
+            to->row[to->rows++].place = at;
         }
 }
 
 /* ---- connectors */
 
 enum { UNUSED, INPUT, LO, HI, FLAG, DIGITAL_BLOCK = 6, ANALOG_INPUT, ANALOG_FLAG, ANALOG_BLOCK };
+
+unsigned written_by(connector c) { return c.class == FLAG ? TO_M : c.class == ANALOG_FLAG ? TO_AM : 0; }
 
 static int32_t plain_value(connector c, bool unused, const int32_t *record) {
     switch (c.class) {
@@ -141,16 +149,22 @@ name connector_name(connector c) {
     return named(before[c.class][c.inverted], c.number);
 }
 
-name flag_name(size_t word) { return named("M", (unsigned)word + 1); }
+name destination_name(unsigned class, unsigned number) {
+    static const char *const before[] = {[TO_Q] = "Q", [TO_M] = "M", [TO_AQ] = "AQ", [TO_AM] = "AM"};
+    return named(before[class], number);
+}
 
-name analog_flag_name(size_t word) { return named("AM", (unsigned)word + 1); }
+name flag_name(size_t word) { return destination_name(TO_M, (unsigned)word + 1); }
+
+name analog_flag_name(size_t word) { return destination_name(TO_AM, (unsigned)word + 1); }
 
 name input_name(size_t word) {
     return word < DIGITAL_INPUTS ? named("I", (unsigned)word + 1) : named("AI", (unsigned)(word - DIGITAL_INPUTS) + 1);
 }
 
 name output_name(size_t word) {
-    return word < DIGITAL_OUTPUTS ? named("Q", (unsigned)word + 1) : named("AQ", (unsigned)(word - DIGITAL_OUTPUTS) + 1);
+    return word < DIGITAL_OUTPUTS ? destination_name(TO_Q, (unsigned)word + 1)
+                                  : destination_name(TO_AQ, (unsigned)(word - DIGITAL_OUTPUTS) + 1);
 }
 
 label_text label_of(const block *of) {

@@ -1,4 +1,5 @@
-/* An accepted circuit laid out for people: its blocks with kind, inputs, parameters and label, and how all of that is named. */
+/* An accepted circuit laid out for people: its blocks with kind, inputs, parameters and label, its rows with destination and connector,
+   and how all of that is named. */
 #ifndef CIRCUIT_H
 #define CIRCUIT_H
 
@@ -14,7 +15,8 @@ enum {
     DIGITAL_INPUTS = SERIFDOVE_INPUT_WORD_COUNT - ANALOG_INPUTS,
     ANALOG_OUTPUTS = 8,
     DIGITAL_OUTPUTS = SERIFDOVE_OUTPUT_WORD_COUNT - ANALOG_OUTPUTS,
-    FLAGS = 64 /* M, and as many AM */
+    FLAGS = 64, /* M, and as many AM */
+    MOST_ROWS = DIGITAL_OUTPUTS + ANALOG_OUTPUTS + 2 * FLAGS
 };
 
 /* Kinds that are shown in a way of their own. */
@@ -36,7 +38,11 @@ typedef struct {
     bool inverted;
 } connector;
 
+/* The classes of destinations. */
+enum { TO_Q = 1, TO_M, TO_AQ, TO_AM };
+
 typedef struct {
+    size_t place; /* its field's first byte */
     unsigned kind;
     bool retentive;
     connector inputs[MOST_OF_A_BLOCK];
@@ -46,9 +52,16 @@ typedef struct {
 } block;
 
 typedef struct {
+    size_t place;           /* its field's first byte */
+    unsigned class, number; /* of its destination */
+    connector from;
+} output_row;
+
+typedef struct {
     size_t length; /* of its bytes */
     unsigned n, rows;
     block block[SERIFDOVE_MOST_BLOCKS + 1]; /* by number, from 1 */
+    output_row row[MOST_ROWS];
 } circuit;
 
 /* A kind as people name it. Inputs and parameters that it has not are null; the inputs of a gate have empty names. */
@@ -84,6 +97,9 @@ enum { WHOLE_TIME = 1, WARNING_TIME, DARK_TIME };
 /* This time of the block in ticks. */
 int64_t ticks_of(const block *of, unsigned time);
 
+/* Which class of destinations writes what the connector reads: TO_M or TO_AM; 0 where it reads no flag. */
+unsigned written_by(connector c);
+
 /* What the connector brings to a block, by the words of the record as they are; `unused` where it is unused. */
 int32_t value_of(connector c, bool unused, const int32_t *record);
 
@@ -92,6 +108,9 @@ int32_t value_of(connector c, bool unused, const int32_t *record);
 typedef struct {
     char text[16];
 } name;
+
+/* Of a row's destination, by class and number: Q17, M28, AQ3, AM7. */
+name destination_name(unsigned class, unsigned number);
 
 name connector_name(connector c);   /* I3, !M5, B7, AI2, AM4, hi, lo, - */
 name flag_name(size_t word);        /* of M1 to M64, from 0 */

@@ -627,7 +627,7 @@ static bool is_harbour(const circuit *c, const char *path, message *why) {
 static bool open_with(box *b, const char *path) {
     message why;
     circuit_bytes c;
-    if (take_circuit("demo", path, &c) != CIRCUIT_TAKEN)
+    if (take_circuit("demo", path, NULL, &c) != CIRCUIT_TAKEN)
         return false;
     if (!open_box(b, c.bytes, c.length))
         fail(&why, "there is no memory for the record of %s", path);

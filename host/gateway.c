@@ -17,11 +17,13 @@
 #include <time.h>
 #include <unistd.h>
 
-static const char usage[] = "usage: gateway CIRCUIT [--turn N] [--script FILE]\n"
+static const char usage[] = "usage: gateway CIRCUIT [--turn N] [--script FILE] [--series 0BA6]\n"
                             "Judges the circuit in the file CIRCUIT, begins with a cold start, and takes commands, one a line.\n"
                             "A file whose name ends in .csv holds the circuit as rows (docs/ROWS.md), any other its bytes.\n"
                             "  --turn N       a turn works out N blocks, 1 to 4294967295, or all; without it, all\n"
                             "  --script FILE  takes the commands from FILE instead of standard input\n"
+                            "  --series 0BA6  begins only if the circuit also fits that older series: 200 blocks, Q1 to Q16,\n"
+                            "                 AQ1 and AQ2, M1 to M27, AM1 to AM6, all else as ever; it then runs the same\n"
                             "The command `help` tells the commands. Status 0: all were carried out; 1: some were not;\n"
                             "2: it could not begin, or its output cannot be written.\n";
 
@@ -31,6 +33,7 @@ enum { GREATEST_E = 65535, MOST_SCANS = 1000000, LONGEST_LINE = 4096 };
 static box gateway;
 static uint32_t turn = UINT32_MAX; /* how many blocks a turn works out */
 static const char *script;         /* null: standard input */
+static const series *fit;          /* that the circuit must fit; null: none */
 static size_t line_number;
 static bool at_a_terminal; /* somebody types the commands */
 static bool some_refused, is_over;
@@ -560,6 +563,13 @@ static void read_turn(const char *word) {
     turn = (uint32_t)number;
 }
 
+/* Which series the circuit must fit, by the word behind --series. */
+static void choose_series(const char *word) {
+    message why;
+    if (!read_series(word, &fit, &why))
+        cannot_begin(why.text);
+}
+
 /* The circuit's name; null if there is none. */
 static const char *read_options(int count, char **words) {
     const char *path = NULL;
@@ -572,6 +582,9 @@ static const char *read_options(int count, char **words) {
             if (next == NULL)
                 cannot_begin("--script needs the name of a file with commands");
             script = next;
+            i++;
+        } else if (strcmp(words[i], "--series") == 0) {
+            choose_series(next);
             i++;
         } else if (words[i][0] == '-' || path != NULL) {
             fprintf(stderr, "gateway: `%s` is not expected\n%s", shown(words[i]).text, usage);
@@ -598,13 +611,13 @@ static FILE *open_commands(void) {
 /* Reads and judges the circuit, and starts. */
 static void begin(const char *path) {
     circuit_bytes c;
-    if (take_circuit("gateway", path, &c) != CIRCUIT_TAKEN)
+    if (take_circuit("gateway", path, fit, &c) != CIRCUIT_TAKEN)
         exit(CANNOT_GO_ON);
     if (!open_box(&gateway, c.bytes, c.length))
         cannot_begin("there is no memory for the record");
     cold_start(&gateway);
-    printf("circuit: %s, %zu bytes, %zu block%s, %zu row%s; cold start\n", shown(path).text, c.length, c.blocks, plural(c.blocks),
-           c.rows, plural(c.rows));
+    printf("circuit: %s, %zu bytes, %zu block%s, %zu row%s%s; cold start\n", shown(path).text, c.length, c.blocks, plural(c.blocks),
+           c.rows, plural(c.rows), fits_text(fit).text);
 }
 
 static void end(void) {

@@ -589,8 +589,7 @@ static void tell_found(FILE *to, serifdove_answer answer, const uint8_t *text, c
     print_row(to, text, of->bytes, f->mark);
 }
 
-/* Where the first block too many stands, and how many there are. */
-static void tell_surplus_block(FILE *to, const uint8_t *text, size_t length) {
+void tell_surplus_block(FILE *to, size_t most, const uint8_t *text, size_t length) {
     reader r = {text, length, 0};
     row of = {.line = 1}, surplus = of;
     size_t blocks = 0, number = 0;
@@ -598,14 +597,14 @@ static void tell_surplus_block(FILE *to, const uint8_t *text, size_t length) {
         finding f = {.what = NO_FAULT};
         read_kind(text, &of, &f);
         blocks += f.kind != NULL;
-        if (f.kind != NULL && blocks == SERIFDOVE_MOST_BLOCKS + 1) {
+        if (f.kind != NULL && blocks == most + 1) {
             number = i;
             surplus = of;
         }
     }
     if (number == 0)
         return;
-    fprintf(to, "  There are %zu blocks; block %d stands in ", blocks, SERIFDOVE_MOST_BLOCKS + 1);
+    fprintf(to, "  There are %zu blocks; block %zu stands in ", blocks, most + 1);
     print_place(to, number, &surplus);
     fprintf(to, ".\n");
     print_row(to, text, surplus.bytes, surplus.bytes);
@@ -628,7 +627,7 @@ void tell_refused_rows(FILE *to, serifdove_answer answer, const uint8_t *text, s
         fprintf(to, ": %s.\n", refusal_meaning(answer.number));
     }
     if (answer.number == SERIFDOVE_TOO_MANY_BLOCKS)
-        tell_surplus_block(to, text, length);
+        tell_surplus_block(to, SERIFDOVE_MOST_BLOCKS, text, length);
     fprintf(to, "  What to do: %s.\n", hint != NULL ? hint : refusal_cure(answer.number));
 }
 
@@ -673,10 +672,35 @@ static size_t row_of_field(const uint8_t *bytes, size_t place) {
     return count;
 }
 
+/* Finds the row from which the field at this place was read: its number; 0 where the reader here finds none. */
+static size_t find_row_of_field(const circuit_source *of, size_t place, row *found) {
+    const size_t number = place < of->length ? row_of_field(of->bytes, place) : 0;
+    return find_row(of->text, of->text_length, number, found) ? number : 0;
+}
+
+void print_place_of_field(FILE *to, const circuit_source *of, size_t place) {
+    row found;
+    const size_t number = find_row_of_field(of, place, &found);
+    if (number > 0)
+        print_place(to, number, &found);
+    else
+        fprintf(to, "byte %zu%s", place, of->text == NULL ? "" : " of the circuit");
+}
+
+/* The kind of the block that begins here; null for another field. */
+static const kind *kind_in(const uint8_t *field) { return field[0] == BLOCK_TAG ? kind_of(field[FIELD_HEAD]) : NULL; }
+
 /* Cells of a row, from 1: the first and the last that a refusal is about; 0 where that is not known. */
 typedef struct {
     size_t first, last;
 } cells;
+
+static cells cells_of_input(size_t input) { return (cells){CELLS_BEFORE_INPUTS + 2 * input + 1, CELLS_BEFORE_INPUTS + 2 * input + 2}; }
+
+/* Those of an output row that a refusal by this number is about. */
+static cells cells_of_output_row(size_t number) {
+    return number == SERIFDOVE_DESTINATION ? (cells){2, 3} : number == SERIFDOVE_CONNECTOR ? (cells){4, 5} : (cells){0, 0};
+}
 
 static bool is_analog(const kind *k, size_t input) { return k->inputs[input][0] == 'A'; }
 
@@ -731,18 +755,14 @@ static cells refused_cells_of_block(serifdove_answer answer, const uint8_t *byte
     if (part == inputs + count_of(k->parameters))
         return (cells){0, 0};
     if (part < inputs)
-        return (cells){CELLS_BEFORE_INPUTS + 2 * part + 1, CELLS_BEFORE_INPUTS + 2 * part + 2};
+        return cells_of_input(part);
     const size_t last = parameters + part - inputs;
     return (cells){last - is_above_the_time_before(bytes + answer.place, k, part - inputs), last};
 }
 
 /* The cells that check's refusal of this field is about. */
 static cells refused_cells(serifdove_answer answer, const uint8_t *bytes, size_t length, const kind *k) {
-    if (k != NULL)
-        return refused_cells_of_block(answer, bytes, length, k);
-    return answer.number == SERIFDOVE_DESTINATION ? (cells){2, 3}
-           : answer.number == SERIFDOVE_CONNECTOR ? (cells){4, 5}
-                                                  : (cells){0, 0};
+    return k != NULL ? refused_cells_of_block(answer, bytes, length, k) : cells_of_output_row(answer.number);
 }
 
 /* The range of a parameter, by its name; that of a counter's thresholds is its own. */
@@ -775,10 +795,9 @@ static const char *expected_number(unsigned kind_number, cells c, const column *
 
 /* The connectors that an input takes, or an output row to this class of destination. */
 static const char *connectors_of(const kind *k, size_t input, unsigned destination) {
-    enum { Q = 1, M, AQ, AM };
-    if (k == NULL && (destination < Q || destination > AM))
+    if (k == NULL && (destination < TO_Q || destination > TO_AM))
         return "a connector that docs/ROWS.md has, behind a destination that it has";
-    if (k == NULL ? destination >= AQ : is_analog(k, input))
+    if (k == NULL ? destination >= TO_AQ : is_analog(k, input))
         return "class 7, 8 or 9, and a number that this class has (docs/ROWS.md, Connectors)";
     return k == NULL ? "class 1 to 4 or 6, or inverted 129 to 132 or 134, and a number that this class has (docs/ROWS.md, Connectors)"
                      : "class 0 to 4 or 6, or inverted 129 to 132 or 134, and a number that this class has (docs/ROWS.md, Connectors)";
@@ -802,16 +821,9 @@ static const char *expected_in(serifdove_answer answer, const uint8_t *field, co
     }
 }
 
-/* The cells that the refusal is about, what is expected there, and the row with a mark below them. */
-static void tell_refused_cells(FILE *to, serifdove_answer answer, const uint8_t *bytes, size_t length, const uint8_t *text,
-                               const row *of) {
-    const uint8_t *field = bytes + answer.place;
-    const kind *k = field[0] == BLOCK_TAG ? kind_of(field[FIELD_HEAD]) : NULL;
-    const cells c = refused_cells(answer, bytes, length, k);
-    if (c.first == 0 || of->count != columns_of(k)) {
-        print_row(to, text, of->bytes, of->bytes);
-        return;
-    }
+/* These cells of the field's row, what is expected there, and the row with a mark below them. */
+static void tell_cells(FILE *to, const uint8_t *field, const uint8_t *text, const row *of, cells c, const char *expected) {
+    const kind *k = kind_in(field);
     const column first = column_at(k, field[FIELD_HEAD], c.first - 1), last = column_at(k, field[FIELD_HEAD], c.last - 1);
     const part one = of->cells[c.first - 1], other = of->cells[c.last - 1];
     const bool is_one = c.first == c.last;
@@ -821,25 +833,41 @@ static void tell_refused_cells(FILE *to, serifdove_answer answer, const uint8_t 
     else
         fprintf(to, "  Cells %zu and %zu, %s and %s: ", c.first, c.last, first.name, last.name);
     print_word(to, text, mark);
-    fprintf(to, "; expected is %s.\n", expected_in(answer, field, k, c, &first));
+    fprintf(to, "; expected is %s.\n", expected);
     print_row(to, text, of->bytes, mark);
 }
 
-void tell_refused_circuit_of_rows(FILE *to, serifdove_answer answer, const uint8_t *bytes, size_t bytes_len, const uint8_t *text,
-                                  size_t length) {
-    const size_t number = answer.place < bytes_len ? row_of_field(bytes, answer.place) : 0;
-    const bool too_early = number > 0 && answer.number == SERIFDOVE_NUMBER_OF_BLOCKS && bytes[answer.place] == ROW_TAG;
-    row of;
-    const bool is_found = find_row(text, length, number, &of);
+void tell_cells_of_field(FILE *to, const circuit_source *of, size_t place, size_t input, size_t number, const char *expected) {
+    const uint8_t *field = of->bytes + place;
+    const kind *k = kind_in(field);
+    row found;
+    if (find_row_of_field(of, place, &found) > 0 && found.count == columns_of(k))
+        tell_cells(to, field, of->text, &found, k != NULL ? cells_of_input(input) : cells_of_output_row(number), expected);
+}
+
+/* The cells that check's refusal is about, or the row alone, where they are not known. */
+static void tell_refused_cells(FILE *to, serifdove_answer answer, const circuit_source *of, const row *found) {
+    const uint8_t *field = of->bytes + answer.place;
+    const kind *k = kind_in(field);
+    const cells c = refused_cells(answer, of->bytes, of->length, k);
+    if (c.first == 0 || found->count != columns_of(k)) {
+        print_row(to, of->text, found->bytes, found->bytes);
+        return;
+    }
+    const column first = column_at(k, field[FIELD_HEAD], c.first - 1);
+    tell_cells(to, field, of->text, found, c, expected_in(answer, field, k, c, &first));
+}
+
+void tell_refused_circuit_of_rows(FILE *to, serifdove_answer answer, const circuit_source *of) {
+    const bool too_early =
+        answer.number == SERIFDOVE_NUMBER_OF_BLOCKS && answer.place < of->length && of->bytes[answer.place] == ROW_TAG;
+    row found;
     fprintf(to, "  Refusal %zu at ", answer.number);
-    if (is_found)
-        print_place(to, number, &of);
-    else
-        fprintf(to, "byte %zu of the circuit", answer.place);
+    print_place_of_field(to, of, answer.place);
     fprintf(to, ": %s.\n", too_early ? "an output row stands before a block" : refusal_meaning(answer.number));
-    if (is_found) {
-        tell_block(to, bytes, bytes_len, answer.place);
-        tell_refused_cells(to, answer, bytes, bytes_len, text, &of);
+    if (find_row_of_field(of, answer.place, &found) > 0) {
+        tell_block(to, of->bytes, of->length, answer.place);
+        tell_refused_cells(to, answer, of, &found);
     }
     fprintf(to, "  What to do: %s.\n",
             too_early ? "let all blocks (16) stand before the first output row (48)" : refusal_cure(answer.number));

@@ -12,10 +12,29 @@
    what to do. */
 void tell_refused_rows(FILE *to, serifdove_answer answer, const uint8_t *text, size_t length);
 
-/* Tells why serifdove_check refused the circuit that was read from this text: number, meaning, the row of the field with the fault and
-   its text, the cells, what is expected there, and what to do. */
-void tell_refused_circuit_of_rows(FILE *to, serifdove_answer answer, const uint8_t *bytes, size_t bytes_len, const uint8_t *text,
-                                  size_t length);
+/* Where the first block stands that is one more than so many, and how many there are; nothing where there are not more. */
+void tell_surplus_block(FILE *to, size_t most, const uint8_t *text, size_t length);
+
+/* A circuit's bytes, and the text from whose rows they were read; a null pointer with length 0, if from none. */
+typedef struct {
+    const uint8_t *bytes;
+    size_t length;
+    const uint8_t *text;
+    size_t text_length;
+} circuit_source;
+
+/* Tells why serifdove_check refused the circuit that was read from a text: number, meaning, the row of the field with the fault and its
+   text, the cells, what is expected there, and what to do. */
+void tell_refused_circuit_of_rows(FILE *to, serifdove_answer answer, const circuit_source *of);
+
+/* Prints where the field at this place stands: "row 2 (line 3 of the file)"; "byte 23 of the circuit" where no row of the text is found
+   for it, and "byte 23" where there is no text. */
+void print_place_of_field(FILE *to, const circuit_source *of, size_t place);
+
+/* Tells the cells of the block's input, from 0, or of an output row those that a refusal by this number is about: their text, what is
+   expected there, and the row with a mark below them. The field at this place is a block or an output row. Nothing where no row of the
+   text is found for it. */
+void tell_cells_of_field(FILE *to, const circuit_source *of, size_t place, size_t input, size_t number, const char *expected);
 
 /* What was taken away, and how many bytes are left. */
 typedef struct {

@@ -6,8 +6,8 @@
 #include <stdlib.h>
 #include <string.h>
 
-static const char usage[] = "usage: rows CSV CIRCUIT\n"
-                            "       rows --back CIRCUIT CSV\n"
+static const char usage[] = "usage: rows CSV CIRCUIT [--series 0BA6]\n"
+                            "       rows --back CIRCUIT CSV [--series 0BA6]\n"
                             "       rows --trim CSV TRIMMED\n"
                             "The first reads the rows in the file CSV, one a block or output row (docs/ROWS.md), judges the\n"
                             "circuit that they make, and writes its bytes to the file CIRCUIT. It replaces a circuit.\n"
@@ -15,6 +15,8 @@ static const char usage[] = "usage: rows CSV CIRCUIT\n"
                             "The third copies rows to the file TRIMMED, which may not be there yet, without what spreadsheet\n"
                             "programs add: a byte order mark, rows of empty cells, empty cells behind those of a kind. It\n"
                             "leaves them where the rows could say something else without them, and tells how many.\n"
+                            "With --series the circuit must also fit that older series: 200 blocks, Q1 to Q16, AQ1 and AQ2, M1\n"
+                            "to M27, AM1 to AM6, all else as ever; else it is refused.\n"
                             "The names CSV and TRIMMED end in .csv, the name CIRCUIT does not. A file is written whole or not\n"
                             "at all.\n"
                             "Status 0: it is written; 1: the rows or the circuit are refused, and no file is touched;\n"
@@ -25,6 +27,8 @@ enum { WRITTEN, REFUSED_ROWS, CANNOT };
 static const file_sort circuits = {"circuit", "circuit", {"\x01\x00\x03"}, 3, true};
 static const file_sort texts = {"text of rows", "text of rows", {"16,", "48,"}, 3, false};
 
+static const series *fit; /* that the circuit must fit; null: none */
+
 static int cannot(const char *why) {
     fprintf(stderr, "rows: %s\n", why);
     return CANNOT;
@@ -32,7 +36,7 @@ static int cannot(const char *why) {
 
 /* Takes the circuit from a file of either sort, which the caller frees if the status is WRITTEN. */
 static int take(const char *path, circuit_bytes *to) {
-    switch (take_circuit("rows", path, to)) {
+    switch (take_circuit("rows", path, fit, to)) {
     case CIRCUIT_TAKEN:
         return WRITTEN;
     case CIRCUIT_REFUSED:
@@ -52,8 +56,8 @@ static int write_circuit(const char *from, const char *path) {
     free(c.bytes);
     if (!is_written)
         return cannot(why.text);
-    printf("%s: %zu bytes, %zu block%s, %zu output row%s\n", shown(path).text, c.length, c.blocks, plural(c.blocks), c.rows,
-           plural(c.rows));
+    printf("%s: %zu bytes, %zu block%s, %zu output row%s%s\n", shown(path).text, c.length, c.blocks, plural(c.blocks), c.rows,
+           plural(c.rows), fits_text(fit).text);
     return WRITTEN;
 }
 
@@ -73,7 +77,7 @@ static int write_text(const char *from, const char *path) {
     }
     if (!write_file(path, &texts, text, answer.first, &why))
         return cannot(why.text);
-    printf("%s: %zu bytes, %zu row%s\n", shown(path).text, answer.first, answer.second, plural(answer.second));
+    printf("%s: %zu bytes, %zu row%s%s\n", shown(path).text, answer.first, answer.second, plural(answer.second), fits_text(fit).text);
     return WRITTEN;
 }
 
@@ -99,12 +103,13 @@ static int write_trimmed(const char *from, const char *path) {
     return WRITTEN;
 }
 
-/* What the program can do: by which word, from rows or a circuit to which, and how. */
+/* What the program can do: by which word, from rows or a circuit to which, whether a circuit is judged, and how. */
 static const struct {
     const char *option; /* null: none */
-    bool from_rows, to_rows;
+    bool from_rows, to_rows, judges;
     int (*carry_out)(const char *from, const char *path);
-} jobs[] = {{NULL, true, false, write_circuit}, {"--back", false, true, write_text}, {"--trim", true, true, write_trimmed}};
+} jobs[] = {
+    {NULL, true, false, true, write_circuit}, {"--back", false, true, true, write_text}, {"--trim", true, true, false, write_trimmed}};
 enum { JOBS = sizeof jobs / sizeof *jobs };
 
 /* Whether the name ends as it should; else it is told. */
@@ -124,7 +129,24 @@ static size_t job_of(const char *word) {
     return i;
 }
 
+/* Takes --series and the word behind it out of the words, wherever they stand; how many are left, 0 where it is told what is wrong. */
+static int take_series(int count, char **words) {
+    int left = 0;
+    message why;
+    for (int i = 0; i < count; i++)
+        if (strcmp(words[i], "--series") != 0) {
+            words[left++] = words[i];
+        } else if (!read_series(++i < count ? words[i] : NULL, &fit, &why)) {
+            cannot(why.text);
+            return 0;
+        }
+    return left;
+}
+
 int main(int count, char **words) {
+    count = take_series(count, words);
+    if (count == 0)
+        return CANNOT;
     if (count == 2 && (strcmp(words[1], "--help") == 0 || strcmp(words[1], "-h") == 0))
         return fputs(usage, stdout) < 0 || fflush(stdout) != 0 ? cannot("standard output cannot be written") : WRITTEN;
     const size_t job = count > 1 ? job_of(words[1]) : 0;
@@ -133,6 +155,8 @@ int main(int count, char **words) {
         fputs(usage, stderr);
         return CANNOT;
     }
+    if (fit != NULL && !jobs[job].judges)
+        return cannot("--series does not go with --trim, which judges no circuit");
     if (!is_named(names[0], jobs[job].from_rows) || !is_named(names[1], jobs[job].to_rows))
         return CANNOT;
     const int status = jobs[job].carry_out(names[0], names[1]);
