@@ -617,7 +617,7 @@ static void begin(const char *path) {
         cannot_begin("there is no memory for the record");
     cold_start(&gateway);
     printf("circuit: %s, %zu bytes, %zu block%s, %zu row%s%s; cold start\n", shown(path).text, c.length, c.blocks, plural(c.blocks),
-           c.rows, plural(c.rows), fits_text(fit).text);
+           c.rows, plural(c.rows), fits(fit).text);
 }
 
 static void end(void) {

@@ -840,9 +840,10 @@ static void tell_cells(FILE *to, const uint8_t *field, const uint8_t *text, cons
 void tell_cells_of_field(FILE *to, const circuit_source *of, size_t place, size_t input, size_t number, const char *expected) {
     const uint8_t *field = of->bytes + place;
     const kind *k = kind_in(field);
+    const cells c = k != NULL ? cells_of_input(input) : cells_of_output_row(number);
     row found;
-    if (find_row_of_field(of, place, &found) > 0 && found.count == columns_of(k))
-        tell_cells(to, field, of->text, &found, k != NULL ? cells_of_input(input) : cells_of_output_row(number), expected);
+    if (c.first > 0 && find_row_of_field(of, place, &found) > 0 && found.count == columns_of(k))
+        tell_cells(to, field, of->text, &found, c, expected);
 }
 
 /* The cells that check's refusal is about, or the row alone, where they are not known. */

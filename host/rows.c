@@ -57,7 +57,7 @@ static int write_circuit(const char *from, const char *path) {
     if (!is_written)
         return cannot(why.text);
     printf("%s: %zu bytes, %zu block%s, %zu output row%s%s\n", shown(path).text, c.length, c.blocks, plural(c.blocks), c.rows,
-           plural(c.rows), fits_text(fit).text);
+           plural(c.rows), fits(fit).text);
     return WRITTEN;
 }
 
@@ -77,7 +77,7 @@ static int write_text(const char *from, const char *path) {
     }
     if (!write_file(path, &texts, text, answer.first, &why))
         return cannot(why.text);
-    printf("%s: %zu bytes, %zu row%s%s\n", shown(path).text, answer.first, answer.second, plural(answer.second), fits_text(fit).text);
+    printf("%s: %zu bytes, %zu row%s%s\n", shown(path).text, answer.first, answer.second, plural(answer.second), fits(fit).text);
     return WRITTEN;
 }
 

@@ -21,11 +21,11 @@ bool read_series(const char *word, const series **to, message *why) {
     return true;
 }
 
-name fits_text(const series *s) {
-    name n = {0};
+fits_text fits(const series *s) {
+    fits_text t = {0};
     if (s != NULL)
-        snprintf(n.text, sizeof n.text, "; fits %s", s->name);
-    return n;
+        snprintf(t.text, sizeof t.text, "; fits %s", s->name);
+    return t;
 }
 
 /* ---- what of a circuit the series has not */
@@ -39,8 +39,9 @@ typedef struct {
     const output_row *row; /* in which row; null: in none */
 } misfit;
 
+enum { LISTED = 5 }; /* how many are told by name, behind the first */
+
 /* How many there are, and the first of them: by their fields' order, in a block by that of the inputs, in a row the connector first. */
-enum { LISTED = 5 };
 typedef struct {
     size_t count;
     misfit first[1 + LISTED];
@@ -52,7 +53,7 @@ static void enter(misfits *to, misfit m) {
     to->count++;
 }
 
-/* Whether the series has no such destination, nor a flag that it would write. Of class 0 there are none. */
+/* Whether the series has no such destination, nor a flag that it would write. Class 0 is that of no destination: nothing is above it. */
 static bool is_above(const series *s, unsigned class, unsigned number) { return class != 0 && number > s->most[class]; }
 
 static void look_into_block(const series *s, const circuit *c, unsigned k, misfits *to) {

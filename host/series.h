@@ -18,7 +18,11 @@ typedef struct {
 bool read_series(const char *word, const series **to, message *why);
 
 /* "; fits 0BA6", for a line that tells of a circuit; nothing where no series is asked for (null). */
-name fits_text(const series *s);
+typedef struct {
+    char text[24];
+} fits_text;
+
+fits_text fits(const series *s);
 
 /* Tells why the circuit does not fit, which serifdove_check accepts and the series' check refused with this answer: number, place,
    meaning; the field and what of it the series has not, of rows the cells too; what else it has not, the first few by name; and what to

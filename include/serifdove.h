@@ -95,12 +95,12 @@ enum serifdove_0ba6 {
 };
 
 /* Checks whether a circuit fits the series 0BA6: as serifdove_check, with all that is said there of its answer, its slice and its
-   threads, but against these limits. More than 200 blocks are 4, a connector to M28 to M64 or AM7 to AM64 is 6, such a destination,
-   Q17 to Q20 or AQ3 to AQ8 is 9.
+   threads, but against these limits. More than 200 blocks are 4; a connector to M28 to M64 or AM7 to AM64 is 6; one of these flags, Q17
+   to Q20 or AQ3 to AQ8 as a destination is 9.
    What it accepts, serifdove_check accepts with the same answer. No other call asks for the series: scans and rows are the same,
    whichever check a circuit was judged by. Where serifdove_check accepts and this refuses, its number is 4, with place 0, or 6 or 9,
-   with the place of the first field that does not fit. Where serifdove_check refuses, this refuses too, perhaps an earlier field or
-   with another number. */
+   with the place of the first field that does not fit. Where serifdove_check refuses, this refuses too, perhaps an earlier field, or
+   the same field with a lower number. */
 serifdove_answer serifdove_check_profile(const uint8_t *circuit, size_t length);
 
 /* ---- the run record: what the host keeps between calls, as signed words */

@@ -377,16 +377,7 @@ done
 echo "gateway: circuits at each limit of the older series and $misfits just above one, many misfits; as bytes and as rows"
 
 # The library decides. Where its answer is none that is found here, only that is told; where it accepts, the gateway begins.
-cat >"$work/told.c" <<'END'
-#include "serifdove.h"
-#include <stdlib.h>
-serifdove_answer told_profile(const uint8_t *circuit, size_t length);
-serifdove_answer told_profile(const uint8_t *circuit, size_t length) {
-    (void)circuit, (void)length;
-    return (serifdove_answer){(size_t)atoi(getenv("NUMBER")), (size_t)atoi(getenv("PLACE")), 0, 0};
-}
-END
-build_c "$work/told" -Dserifdove_check_profile=told_profile "$work/told.c" $gateway_sources
+build_c "$work/told" -Dserifdove_check_profile=told_profile tests/told.c $gateway_sources
 # told NUMBER PLACE FILE: what the gateway tells, if the library answers so
 told() {
     (cd "$work" && NUMBER=$1 PLACE=$2 run ./told "$3" --series 0BA6 </dev/null >out 2>err)
@@ -415,15 +406,8 @@ told 0 0 several
 echo "gateway: where it finds no such misfit itself, only the library's answer is told"
 
 # the page: what it shows of the series is what the program prints
-awk '$0 == "```csv" { inside = 1; next } $0 == "```" { inside = 0 } inside' docs/OPERATING.md >"$work/door.csv"
-awk '$0 == "```series" { inside = 1; next } $0 == "```" { inside = 0 } inside' docs/OPERATING.md >"$work/shown"
-mkdir -p "$work/target/host" || exit 2
-printf '#!/usr/bin/env bash\nexec %s %s "$@"\n' "${runner[*]}" "$here/$gateway" >"$work/$gateway"
-chmod +x "$work/$gateway"
-while IFS= read -r line; do
-    [ "${line:0:2}" != '$ ' ] || { echo "$line" && (cd "$work" && bash -c "${line:2}") 2>&1 </dev/null; }
-done <"$work/shown" >"$work/printed"
-diff "$work/shown" "$work/printed" && [ "$(grep -c '^\$ .*--series' "$work/shown")" -ge 2 ] || wrong "docs/OPERATING.md: the gateway tells of the series otherwise"
+mkdir -p "$work/page" && page_lines docs/OPERATING.md csv >"$work/page/door.csv" || exit 2
+play_page docs/OPERATING.md series "$work/page" && [ "$(grep -c '^\$ .*--series' "$work/shown")" -ge 2 ] || wrong "docs/OPERATING.md: the gateway tells of the series otherwise"
 # and its limits are the header's
 sed -n 's/^| .* | .*[^0-9]\([0-9]*\) | `\(SERIFDOVE_0BA6_[A-Z]*\)` |$/_Static_assert(\2 == \1, "\2");/p' docs/OPERATING.md >"$work/limits.c"
 [ "$(sort -u "$work/limits.c" | wc -l)" -eq 5 ] || wrong "docs/OPERATING.md has not the five limits of the series"

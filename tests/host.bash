@@ -128,6 +128,27 @@ make_circuit() {
     run $rows "$1" "$2" >"$work/made" || exit 1
 }
 
+# page_lines PAGE NAME: the lines of the page's blocks of this name
+page_lines() {
+    awk -v name="\`\`\`$2" '$0 == name { inside = 1; next } $0 == "```" { inside = 0 } inside' "$1"
+}
+
+# play_page PAGE NAME FOLDER: carries out the commands in the page's blocks of this name, in their order, in a folder in which the programs
+# stand where the page says; they must print what it shows. Leaves the blocks in $work/shown.
+play_page() {
+    local program line
+    mkdir -p "$3/target/host" || exit 2
+    for program in rows gateway; do
+        { printf '#!/usr/bin/env bash\nexec' && printf ' %q' "${runner[@]}" "$PWD/target/host/$program" && printf ' "$@"\n'; } >"$3/target/host/$program"
+        chmod +x "$3/target/host/$program"
+    done
+    page_lines "$1" "$2" >"$work/shown"
+    while IFS= read -r line; do
+        [ "${line:0:2}" != '$ ' ] || { echo "$line" && (cd "$3" && bash -c "${line:2}") 2>&1 </dev/null; }
+    done <"$work/shown" >"$work/printed"
+    diff "$work/shown" "$work/printed"
+}
+
 # The demo's program, and the circuit that it plays.
 demo=target/host/demo
 demo_sources="host/demo.c host/box.c host/record_file.c host/trace.c $circuit_file"

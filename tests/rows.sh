@@ -399,22 +399,7 @@ done
 echo "rows: circuits that fit the older series, and that do not"
 
 # ---- what the message says where the library's answer is none that is found here
-cat >"$work/told.c" <<'END'
-#include "serifdove.h"
-#include <stdlib.h>
-serifdove_answer told_read_rows(const uint8_t *text, size_t text_len, uint8_t *circuit, size_t circuit_len);
-serifdove_answer told_profile(const uint8_t *circuit, size_t length);
-static serifdove_answer told(void) { return (serifdove_answer){(size_t)atoi(getenv("NUMBER")), (size_t)atoi(getenv("PLACE")), 0, 0}; }
-serifdove_answer told_read_rows(const uint8_t *text, size_t text_len, uint8_t *circuit, size_t circuit_len) {
-    (void)text, (void)text_len, (void)circuit, (void)circuit_len;
-    return told();
-}
-serifdove_answer told_profile(const uint8_t *circuit, size_t length) {
-    (void)circuit, (void)length;
-    return told();
-}
-END
-build_c "$work/told" -Dserifdove_read_rows=told_read_rows "$work/told.c" $rows_sources
+build_c "$work/told" -Dserifdove_read_rows=told_read_rows tests/told.c $rows_sources
 for answer in '30 1' '32 1' '31 2' '31 9' '33 0' '34 0' '99 0'; do
     read -r number place <<<"$answer"
     printf '16,8,0,0,0,0\n16,8,0,0,0,0,\n' >"$work/bad.csv"
@@ -428,10 +413,10 @@ echo "rows: where the reader of messages disagrees, only the library's answer is
 
 # ---- texts by chance: the row is always found, and a cell or the row told; first it is tried whether wrong answers would be found
 row_messages="tests/row_messages.c host/series.c host/row_text.c host/refusals.c host/circuit.c host/files.c"
-build_c "$work/wrong_messages" -Dserifdove_read_rows=told_read_rows "$work/told.c" $row_messages
+build_c "$work/wrong_messages" -Dserifdove_read_rows=told_read_rows tests/told.c $row_messages
 NUMBER=32 PLACE=1 run "$work/wrong_messages" 1 100 >"$work/out"
 [ $? -eq 1 ] && grep -q '^row_messages: mismatch: ' "$work/out" || wrong "a wrong row is not found: $(cat "$work/out")"
-build_c "$work/wrong_messages" -Dserifdove_check_profile=told_profile "$work/told.c" $row_messages
+build_c "$work/wrong_messages" -Dserifdove_check_profile=told_profile tests/told.c $row_messages
 NUMBER=9 PLACE=6 run "$work/wrong_messages" 1 100 >"$work/out"
 [ $? -eq 1 ] && grep -q '^row_messages: mismatch: the place that does not fit' "$work/out" || wrong "a wrong place is not found: $(cat "$work/out")"
 build_c "$work/messages" $row_messages
@@ -587,18 +572,7 @@ done
 echo "rows: $page, $kinds rows of columns, $examples example rows, $exports of spreadsheet programs, $offered offered"
 
 # ---- the page: its commands, in the order in which they stand, print what it shows
-mkdir -p "$work/page/target/host" || exit 2
-for program in rows gateway; do
-    printf '#!/usr/bin/env bash\nexec %s %s "$@"\n' "${runner[*]}" "$here/target/host/$program" >"$work/page/target/host/$program"
-done
-chmod +x "$work/page/target/host/"*
-awk '$0 == "```csv" { inside = 1; next } $0 == "```" { inside = 0 } inside' $page >"$work/page/door.csv"
-awk '$0 == "```terminal" { inside = 1; next } $0 == "```" { inside = 0 } inside' $page >"$work/shown"
-while IFS= read -r line; do
-    case $line in
-    '$ '*) echo "$line" && (cd "$work/page" && bash -c "${line#??}") 2>&1 </dev/null ;;
-    esac
-done <"$work/shown" >"$work/printed"
-diff "$work/shown" "$work/printed" || wrong "$page: its commands print something else"
+mkdir -p "$work/page" && page_lines $page csv >"$work/page/door.csv" || exit 2
+play_page $page terminal "$work/page" || wrong "$page: its commands print something else"
 [ "$(grep -c '^\$ ' "$work/shown")" -ge 8 ] || wrong "$page shows too few commands"
 echo "rows: $page, $(grep -c '^\$ ' "$work/shown") commands"

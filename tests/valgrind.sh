@@ -1,7 +1,7 @@
 #!/usr/bin/env bash
 # The host's programs under valgrind, on x86-64: the player on the stored trace, the gateway with every command, with circuits that are
-# refused and files that are no record, the reader of rows on good and bad ones, both with a series. No byte that is not theirs is read or written, no word that was never set is used, no memory is
-# lost. First it is tried whether a fault would be found.
+# refused and files that are no record, the reader of rows on good and bad ones, both with a series. No byte that is not theirs is read or
+# written, no word that was never set is used, no memory is lost. First it is tried whether a fault would be found.
 source "$(dirname "${BASH_SOURCE[0]}")/host.bash"
 [ "$emulated" = no ] || { echo "valgrind: only on x86-64" && exit 0; }
 need valgrind valgrind libc6-dbg

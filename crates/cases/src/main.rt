@@ -157,7 +157,7 @@ fn played_with(path: &[u8], circuit: &[u8], n: usize) {
 // ---- the arguments
 
 // The answer for the series, under the name.
-fn judged_for_0ba6(path: &[u8], circuit: &[u8]) {
+fn answered_for_0ba6(path: &[u8], circuit: &[u8]) {
     if ROOM <= circuit.len() {
         return;
     }
@@ -169,7 +169,7 @@ fn judged_for_0ba6(path: &[u8], circuit: &[u8]) {
 // A circuit, under its name.
 fn judged(path: &[u8], circuit: &[u8]) {
     let answer = report::judged(circuit);
-    judged_for_0ba6(path, circuit);
+    answered_for_0ba6(path, circuit);
     if answer.number == 0 {
         played_with(path, circuit, answer.first);
     }

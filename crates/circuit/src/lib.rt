@@ -1,11 +1,13 @@
 // Judges the bytes of a circuit in one pass. The arrays are locals of `judge` and of its caller, and are lent down.
 ghost use mathlib.Core.Path.{_≡_};
 ghost use mathlib.Core.Bool.{false};
-ghost use Prim.Native.Nat.{_≤_};
+ghost use mathlib.Core.List.{List};
+ghost use Prim.Native.Nat.{ℕ, _≤_};
 ghost use lib.ListN.{length, replicate};
 ghost use Rattle.kinds.specs.Table.{kindsTable};
 ghost use Rattle.refusals.specs.Limited.{older};
 ghost use Rattle.refusals.specs.Modest.{Modest};
+ghost use Rattle.refusals.specs.declared.Limits.{Limits};
 ghost use Rattle.decoding.specs.Held.{Sound, seenOf, judgedOf};
 ghost use Rattle.circuit.specs.Circuit.{answerAt, answerOf};
 ghost use Rattle.circuit.specs.Judged.{Answers, Says};
@@ -160,14 +162,10 @@ pub fn judge(
     )
 }
 
-// The answer to a circuit at these limits.
-fn answer(limits: Limits, circuit: &[u8]) -> Answer
-    requires { ⌜ Modest limits ⌝ }
-    ensures { λ r. ⌜ r ≡ answerAt limits (now (circuit .entry)) ⌝ }
+// The answer that a judging comes to.
+fn answer_to(judged: Outcome) -> Answer
+    ensures { λ r. ⌜ ((limits : Limits) (s offsets : List ℕ) → Says limits s judged offsets → r ≡ answerAt limits s) ⌝ }
 {
-    let kinds = kinds::table();
-    let mut offsets = [0usize; 400];
-    let judged = judge(limits, &kinds, circuit, &mut offsets);
     if judged.number != 0 {
         return refusals::refused_at(judged.number as usize, judged.place);
     }
@@ -179,12 +177,16 @@ fn answer(limits: Limits, circuit: &[u8]) -> Answer
 pub fn check(circuit: &[u8]) -> Answer
     ensures { λ r. ⌜ r ≡ answerOf (now (circuit .entry)) ⌝ }
 {
-    answer(refusals::ours(), circuit)
+    let kinds = kinds::table();
+    let mut offsets = [0usize; 400];
+    answer_to(judge(refusals::ours(), &kinds, circuit, &mut offsets))
 }
 
 // The same, at the limits of the series 0BA6.
 pub fn check_profile(circuit: &[u8]) -> Answer
     ensures { λ r. ⌜ r ≡ answerAt older (now (circuit .entry)) ⌝ }
 {
-    answer(refusals::older(), circuit)
+    let kinds = kinds::table();
+    let mut offsets = [0usize; 400];
+    answer_to(judge(refusals::older(), &kinds, circuit, &mut offsets))
 }

@@ -40,10 +40,18 @@ pub fn line(a: Answer) {
     text(b"\n");
 }
 
+// Whether a circuit has more bytes than a program takes; that is then printed.
+fn is_too_long(bytes: &[u8]) -> bool {
+    if bytes.len() <= MOST {
+        return false;
+    }
+    text(b"too long\n");
+    true
+}
+
 // Judges a circuit and prints the answer, or that it is too long: number 1 then, which no accepted circuit has.
 pub fn judged(bytes: &[u8]) -> Answer {
-    if MOST < bytes.len() {
-        text(b"too long\n");
+    if is_too_long(bytes) {
         return refusals::refused_at(1, 0);
     }
     let answer = circuit::check(bytes);
@@ -81,6 +89,17 @@ fn last_of(class: usize) {
     destination(class, fields::limit_of(refusals::older(), class));
 }
 
+// All of a class that the series has, as Q1 to Q16, or AQ1 and AQ2.
+fn all_of(class: usize) {
+    destination(class, 1);
+    if fields::limit_of(refusals::older(), class) == 2 {
+        text(b" and ");
+    } else {
+        text(b" to ");
+    }
+    last_of(class);
+}
+
 // The destination of the row at a place, and which there are.
 fn destination_at(bytes: &[u8], place: usize) {
     if bytes.len() < ROW_HEAD {
@@ -93,9 +112,7 @@ fn destination_at(bytes: &[u8], place: usize) {
     text(b"its destination is ");
     destination(class, words::byte_at(bytes, place + 4));
     text(b"; 0BA6 has ");
-    destination(class, 1);
-    text(b" to ");
-    last_of(class);
+    all_of(class);
 }
 
 // The number of the block that begins at a place, 0 where none does.
@@ -166,9 +183,8 @@ fn fitting(bytes: &[u8], answer: Answer) {
 }
 
 // Judges a circuit for the series and prints the answer, and whether it fits, or that it is too long.
-pub fn judged_for_0ba6(bytes: &[u8]) {
-    if MOST < bytes.len() {
-        text(b"too long\n");
+fn judged_for_0ba6(bytes: &[u8]) {
+    if is_too_long(bytes) {
         return;
     }
     let answer = circuit::check_profile(bytes);
@@ -178,16 +194,13 @@ pub fn judged_for_0ba6(bytes: &[u8]) {
 
 // ---- standard input
 
-// Reads a circuit to its end and prints the answer to it.
-pub fn judged_from(fd: i32) {
+// Reads a circuit to its end and prints the answer to it, or that for the series.
+pub fn judged_from(fd: i32, for_0ba6: bool) {
     let mut bytes = [0u8; ROOM];
     let n = io::read_full(fd, &mut bytes);
+    if for_0ba6 {
+        judged_for_0ba6(&bytes[..n]);
+        return;
+    }
     judged(&bytes[..n]);
-}
-
-// The same, for the series.
-pub fn judged_for_0ba6_from(fd: i32) {
-    let mut bytes = [0u8; ROOM];
-    let n = io::read_full(fd, &mut bytes);
-    judged_for_0ba6(&bytes[..n]);
 }

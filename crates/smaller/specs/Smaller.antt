@@ -1,5 +1,5 @@
--- Document 02, No. 4: what smaller limits change. Each promise is a type with its name, and holds at any limits, at 0 and at limits that are
--- above ours too; proofs/ has the proofs. The series 0BA6 is `older`, which is no larger than `ours`.
+-- Document 02, No. 4: what smaller limits change. Each promise is a type with its name; proofs/ has the proofs. They are made for any limits,
+-- 0 and above ours included, or for any two of which one is no larger; those that name `older`, the series 0BA6, and `ours` follow.
 use Prim.Native.Nat.{ℕ, _≤_}
 use mathlib.Core.Path.{_≡_}
 use mathlib.Core.Logic.{_↔_}
@@ -37,7 +37,7 @@ LowestAtLimits = (limits : Limits) (s : List ℕ) (at : ℕ) (st : State) → At
 abbrev pub ExactlyAtLimits : Type 0
 ExactlyAtLimits = (limits : Limits) (s : List ℕ) → Bytes s → (c : Circuit) → (verdictAt limits s ≡ accepted c) ↔ (Keeps limits c × (s ≡ encode c))
 
--- ---- the calls at any limits. They know a circuit by its verdict alone: `play`, at ours, with the verdict in place of the bytes
+-- ---- the calls at any limits: `play` as it is at a verdict, by which alone the calls know a circuit
 
 abbrev pub replyBy : Verdict → AnyCall → Moment → Answer
 replyBy v check m = answerTo v
@@ -102,12 +102,12 @@ pub data AtLimit (number place : ℕ) : Type 0 where
   connector : number ≡ 6 → AtLimit number place
   destination : number ≡ 9 → AtLimit number place
 
--- the same circuit, or one of these
+-- the same circuit, or one of the three
 pub data Elsewhere (v : Verdict) (c : Circuit) : Type 0 where
   taken-too : v ≡ accepted c → Elsewhere v c
   stopped : (number place : ℕ) → v ≡ refused number place → AtLimit number place → Elsewhere v c
 
--- what is accepted at some limits is, at any others, accepted as the same circuit or refused by one of these
+-- what is accepted at `others`, whatever they are, is at `these` accepted as the same circuit or refused by one of the three
 abbrev pub OnlyAtLimits : Type 0
 OnlyAtLimits = (these others : Limits) (s : List ℕ) (c : Circuit) → verdictAt others s ≡ accepted c → Elsewhere (verdictAt these s) c
 
@@ -123,12 +123,13 @@ pub data AnsweredElsewhere (here there : Answer) : Type 0 where
   alike : here ≡ there → AnsweredElsewhere here there
   refused-here : (number place : ℕ) → here ≡ refusedAt number place → AtLimit number place → AnsweredElsewhere here there
 
--- what is accepted at some limits, answered at others
+-- what is accepted at `others`, answered at `these`
 abbrev pub RefusedAtLimits : Type 0
 RefusedAtLimits =
     (these others : Limits) (s : List ℕ) → answerAt others s .number ≡ 0 → AnsweredElsewhere (answerAt these s) (answerAt others s)
 
--- and of the two calls: `answerAt older` is the contract of `check_profile`, `answerOf` that of `check`, `play` that of all calls
+-- and of the two calls: the contract of `check_profile` says `answerAt older`, that of `check` `answerOf`, and `play` is made of those of
+-- `check` and of the calls on a record
 pub record Profile (s : List ℕ) : Type 0 where
   pub accepts : answerAt older s .number ≡ 0 → answerOf s ≡ answerAt older s
   pub scans : answerAt older s .number ≡ 0 → (xs : List AnyCall) (m : Moment) → playAt older s xs m ≡ play s xs m
@@ -153,7 +154,7 @@ pub record Fits (limits : Limits) (c : Circuit) : Type 0 where
   -- "Q1..Q16, AQ1 and AQ2", and the flags: every row's destination
   pub destinations : All (λ (r : Row). r .number ≤ limitOf limits (r .class)) (c .rows)
 
--- an accepted circuit is accepted at other limits exactly when it fits them
+-- what is accepted at `others` is accepted at `these` exactly when it fits these
 abbrev pub FitsExactly : Type 0
 FitsExactly =
     (these others : Limits) (s : List ℕ) → Bytes s → (c : Circuit) → verdictAt others s ≡ accepted c

@@ -1,5 +1,5 @@
 -- `circuit::check_profile` meets its contract: the answer at the limits of the older series. Assumes nothing.
-use mathlib.Core.Path.{_≡_, sym, subst}
+use mathlib.Core.Path.{_≡_, refl, sym, subst}
 use Rattle.refusals.specs.Modest.{Modest}
 use Rattle.refusals.specs.declared.Limits.{Limits}
 use Rattle.refusals.proofs.Laws.{older-modest}
@@ -8,14 +8,22 @@ use borrow.Author.Needs.{needs}
 use Rattle.circuit.proofs.check_profile.Statement.{statement}
 use Rattle.circuit.proofs.check_profile.Tie as tie
 
+table-requires : tie.Need-table-requires
+table-requires c κs = search needs
+
 older-requires : tie.Need-older-requires
 older-requires c κs = search needs
 
-answer-requires : tie.Need-answer-requires
-answer-requires c κs = subst Modest (sym (c .older .ensures)) older-modest
+judge-requires : tie.Need-judge-requires
+judge-requires c κs = (c .before .before .before .table .ensures, subst Modest (sym (c .before .before .older .ensures)) older-modest, refl)
+
+answer-to-requires : tie.Need-answer-to-requires
+answer-to-requires c κs = search needs
 
 returns : tie.Need-returns
-returns c = subst (λ (limits : Limits). c .answer .result ≡ answerAt limits (c .before .before .before .args .circuit .now)) (c .before .older .ensures) (c .answer .ensures)
+returns c =
+    let s = c .before .before .before .before .before .before .before .args .circuit .now in
+    subst (λ (limits : Limits). c .answer-to .result ≡ answerAt limits s) (c .before .before .before .before .older .ensures) (c .answer-to .ensures _ s _ (c .before .judge .ensures))
 
 pub check-profile-spec : {M : Type 1} → statement M
-check-profile-spec = tie.close (tie.spec older-requires answer-requires returns)
+check-profile-spec = tie.close (tie.spec table-requires older-requires judge-requires answer-to-requires returns)
