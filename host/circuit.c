@@ -24,6 +24,7 @@ static const kind kinds[] = {
     [16] = {"differential trigger", {"Ax"}, {"A", "B", "On", "Delta"}, false, false},
     [17] = {"up/down counter", {"R", "Cnt", "Dir"}, {"On", "Off"}, true, false},
     [18] = {"stairway switch", {"Trg"}, {"base", "T", "T!", "T!L"}, true, false},
+    [19] = {"analog amplifier", {"Ax"}, {"A", "B"}, false, false},
 };
 
 const kind *kind_of(unsigned number) {

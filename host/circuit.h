@@ -20,10 +20,10 @@ enum {
 };
 
 /* Kinds that are shown in a way of their own. */
-enum { ON_DELAY = 9, OFF_DELAY = 10, SHIFT_REGISTER = 12, UP_DOWN_COUNTER = 17, STAIRWAY_SWITCH = 18 };
+enum { ON_DELAY = 9, OFF_DELAY = 10, SHIFT_REGISTER = 12, UP_DOWN_COUNTER = 17, STAIRWAY_SWITCH = 18, ANALOG_AMPLIFIER = 19 };
 
 /* The kinds that there are, and those that may be retentive, for messages. */
-#define ALL_KINDS "1 to 18"
+#define ALL_KINDS "1 to 19"
 #define RETENTIVE_KINDS "9 to 12, 17 and 18"
 
 /* The tags of fields, and the bytes of a field before its content. */

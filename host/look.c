@@ -120,6 +120,14 @@ static void add_times(pieces *to, const block *b, int32_t ta) {
     }
 }
 
+/* That an amplifier's output stands at an end of its range: the value may lie beyond. */
+static void add_end(pieces *to, int32_t output) {
+    if (output == INT16_MIN)
+        add(to, "; ", "at the lower end");
+    if (output == INT16_MAX)
+        add(to, "; ", "at the upper end");
+}
+
 /* What it remembers, and its parameters: "remembered 1; Ta 0.50 s of 3.00 s". */
 static pieces memory_of(const block *b, const int32_t *words) {
     pieces memory = {0};
@@ -136,6 +144,8 @@ static pieces memory_of(const block *b, const int32_t *words) {
     if (b->kind == UP_DOWN_COUNTER)
         add_number(&memory, "; count ", words[2]);
     add_parameters(&memory, b->kind == UP_DOWN_COUNTER ? ", " : "; ", b);
+    if (b->kind == ANALOG_AMPLIFIER)
+        add_end(&memory, words[0]);
     return memory;
 }
 

@@ -136,9 +136,9 @@ enum serifdove_record_word {
 /* Flags as the last publish wrote them, k from 1: M1 to M64 are 0 or 1, AM1 to AM64 are -32,768 to 32,767. */
 #define SERIFDOVE_M(k) (35 + (k))
 #define SERIFDOVE_AM(k) (99 + (k))
-/* The three words of block k, from 1: its output (0 or 1; of a multiplexer -32,768 to 32,767), what it remembers (0 or 1; of a
-   stairway switch its Trg, and 2 more while it runs), and its number (Ta in ticks, the count of an up/down counter, 0 to 999,999, or
-   the shift register with bit j weighing 2^(j-1)). A word that the block's kind has no use for is 0. */
+/* The three words of block k, from 1: its output (0 or 1; of a multiplexer and of an analog amplifier -32,768 to 32,767), what it
+   remembers (0 or 1; of a stairway switch its Trg, and 2 more while it runs), and its number (Ta in ticks, the count of an up/down
+   counter, 0 to 999,999, or the shift register with bit j weighing 2^(j-1)). A word that the block's kind has no use for is 0. */
 #define SERIFDOVE_BLOCK_OUTPUT(k) (161 + 3 * (k))
 #define SERIFDOVE_BLOCK_REMEMBERED(k) (162 + 3 * (k))
 #define SERIFDOVE_BLOCK_NUMBER(k) (163 + 3 * (k))

@@ -29,7 +29,7 @@ static unsigned lowest(set s) {
 #define GAIN {-1000, 1000}
 #define OFFSET {-10000, 10000}
 #define THRESHOLD {-20000, 20000}
-#define VALUE {-32768, 32767}
+#define VALUE {LEAST_VALUE, GREATEST_VALUE}
 
 #define BASE {0, 2}
 #define TIME {0, 9999}
@@ -51,11 +51,12 @@ const kind_rule oracle_kind_rules[KINDS + 1] = {
     [SHIFT_REGISTER] = {.digital = 3, .parameters = 2, .ranges = {{1, 4}, {1, 8}}, .retentive = true, .remembered = 1},
     [THRESHOLD_TRIGGER] = {.analog = 1, .parameters = 4, .ranges = {THRESHOLDS}},
     [COMPARATOR] = {.analog = 2, .parameters = 4, .ranges = {THRESHOLDS}},
-    [MULTIPLEXER] = {.digital = 3, .parameters = 4, .ranges = {VALUE, VALUE, VALUE, VALUE}},
+    [MULTIPLEXER] = {.digital = 3, .parameters = 4, .ranges = {VALUE, VALUE, VALUE, VALUE}, .is_analog = true},
     [DIFFERENTIAL_TRIGGER] = {.analog = 1, .parameters = 4, .ranges = {THRESHOLDS}},
     [UP_DOWN_COUNTER] = {.digital = 3, .parameters = 2, .ranges = {COUNT, COUNT}, .retentive = true, .remembered = 1},
     [STAIRWAY_SWITCH] =
         {.digital = 1, .parameters = 4, .ranges = {BASE, TIME, TIME, TIME}, .times = 3, .retentive = true, .remembered = 3},
+    [AMPLIFIER] = {.analog = 1, .parameters = 2, .ranges = {GAIN, OFFSET}, .is_analog = true},
 };
 
 static bool is_known_kind(unsigned kind) { return 1 <= kind && kind <= KINDS; }
@@ -126,8 +127,7 @@ static bool number_fits(const known_circuit *so_far, connector c) {
 
 /* Whether an earlier block is not of the sort that the connector's class says. */
 static bool wrong_sort(const known_circuit *so_far, connector c) {
-    const bool analog = so_far->kinds[c.number] == MULTIPLEXER;
-    return analog != (c.class == ANALOG_BLOCK);
+    return oracle_kind_rules[so_far->kinds[c.number]].is_analog != (c.class == ANALOG_BLOCK);
 }
 
 /* The numbers that hold for a connector where the classes `taken` are allowed. A block that is not there yet is an own or a later

@@ -41,10 +41,13 @@ enum {
     DIFFERENTIAL_TRIGGER,
     UP_DOWN_COUNTER,
     STAIRWAY_SWITCH,
-    KINDS = 18
+    AMPLIFIER,
+    KINDS = 19
 };
 
 enum { MOST_COUNT = 999999 }; /* of an up/down counter: its count, On and Off */
+
+enum { LEAST_VALUE = -32768, GREATEST_VALUE = 32767 }; /* of AM, V, an actual value and an analog block's output */
 
 typedef struct {
     int32_t least, greatest;
@@ -57,6 +60,7 @@ typedef struct {
     unsigned times;                /* so many parameters behind the first, their base, are times; none is above the one before it */
     bool retentive;                /* option bit 0 is allowed */
     int32_t remembered;            /* the greatest of the block's second word; 0 where it has no use */
+    bool is_analog;                /* its output is a value: class 9 names it, class 6 does not; else its output is a bit */
 } kind_rule;
 
 extern const kind_rule oracle_kind_rules[KINDS + 1];

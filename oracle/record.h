@@ -31,6 +31,9 @@ int32_t oracle_ticks(const uint8_t *content);
 /* What a connector shows that is not unused. */
 int32_t oracle_value(const int32_t *record, connector c);
 
+/* What a trigger's output becomes, for the value that it judges and its output before. */
+int32_t oracle_triggered(int32_t value, int32_t on, int32_t off, int32_t before);
+
 /* Works out the block with this content: `own` are its words in the record. */
 void oracle_work_out(const uint8_t *content, const int32_t *record, int32_t *own);
 

@@ -105,11 +105,15 @@ static void shift_register(int32_t *own, int32_t in, int32_t trg, int32_t dir, i
     own[REMEMBERED] = trg;
 }
 
-/* ---- thresholds */
+/* ---- analog values */
 
-static int32_t actual(int32_t input, int32_t a, int32_t b) { return input * a / 100 + b; }
+/* In C a quotient's fraction is dropped toward zero. The value is held behind the offset. */
+static int32_t actual(int32_t input, int32_t a, int32_t b) {
+    const int32_t value = input * a / 100 + b;
+    return value < LEAST_VALUE ? LEAST_VALUE : least(value, GREATEST_VALUE);
+}
 
-static int32_t triggered(int32_t value, int32_t on, int32_t off, int32_t before) {
+int32_t oracle_triggered(int32_t value, int32_t on, int32_t off, int32_t before) {
     if (on < off)
         return on <= value && value < off;
     return value > on ? 1 : value <= off ? 0 : before;
@@ -173,16 +177,19 @@ static void basic(unsigned kind, const int32_t *in, int32_t *own) {
 static void analog(unsigned kind, const int32_t *in, const int32_t *p, int32_t *own) {
     switch (kind) {
     case THRESHOLD_TRIGGER:
-        own[OUTPUT] = triggered(actual(in[0], p[0], p[1]), p[2], p[3], own[OUTPUT]);
+        own[OUTPUT] = oracle_triggered(actual(in[0], p[0], p[1]), p[2], p[3], own[OUTPUT]);
         break;
     case COMPARATOR:
-        own[OUTPUT] = triggered(actual(in[0], p[0], p[1]) - actual(in[1], p[0], p[1]), p[2], p[3], own[OUTPUT]);
+        own[OUTPUT] = oracle_triggered(actual(in[0], p[0], p[1]) - actual(in[1], p[0], p[1]), p[2], p[3], own[OUTPUT]);
         break;
     case MULTIPLEXER:
         own[OUTPUT] = in[0] ? p[2 * in[1] + in[2]] : 0;
         break;
     case DIFFERENTIAL_TRIGGER:
-        own[OUTPUT] = triggered(actual(in[0], p[0], p[1]), p[2], p[2] + p[3], own[OUTPUT]);
+        own[OUTPUT] = oracle_triggered(actual(in[0], p[0], p[1]), p[2], p[2] + p[3], own[OUTPUT]);
+        break;
+    case AMPLIFIER:
+        own[OUTPUT] = actual(in[0], p[0], p[1]);
         break;
     }
 }

@@ -29,11 +29,9 @@ static int32_t greatest_number(const uint8_t *content) {
 }
 
 static bool sound_block(const uint8_t *content, const int32_t *own) {
-    const unsigned kind = content[0];
-    const bool analog = kind == MULTIPLEXER;
-    return within(own + OUTPUT, 1, analog ? -32768 : 0, analog ? 32767 : 1) &&
-           within(own + REMEMBERED, 1, 0, oracle_kind_rules[kind].remembered) &&
-           within(own + NUMBER, 1, 0, greatest_number(content));
+    const kind_rule *rule = &oracle_kind_rules[content[0]];
+    return within(own + OUTPUT, 1, rule->is_analog ? LEAST_VALUE : 0, rule->is_analog ? GREATEST_VALUE : 1) &&
+           within(own + REMEMBERED, 1, 0, rule->remembered) && within(own + NUMBER, 1, 0, greatest_number(content));
 }
 
 static bool is_sound(const known_circuit *circuit, const int32_t *record) {
@@ -45,7 +43,7 @@ static bool is_sound(const known_circuit *circuit, const int32_t *record) {
         return false;
     if (!within(record + FIRST_I, 24, 0, 1) || !within(record + FIRST_AI, 8, 0, 1000))
         return false;
-    if (!within(record + FIRST_M, 64, 0, 1) || !within(record + FIRST_AM, 64, -32768, 32767))
+    if (!within(record + FIRST_M, 64, 0, 1) || !within(record + FIRST_AM, 64, LEAST_VALUE, GREATEST_VALUE))
         return false;
     for (unsigned k = 1; k <= circuit->n; k++)
         if (!sound_block(circuit->contents[k], record + block_words(k)))

@@ -1,6 +1,7 @@
 #define _POSIX_C_SOURCE 200809L
 #include "calls.h"
 
+#include "ends.h"
 #include "guarded.h"
 
 #include <inttypes.h>
@@ -52,15 +53,16 @@ bool report_calls(void) {
     }
     if (!all_met)
         printf("traces: a number that a call can give, or a kind, was never met\n");
-    return all_met;
+    return report_ends() && all_met;
 }
 
 /* ---- the slices */
 
 static const side *proved;
 static guarded circuit_memory, record_memory, inputs_memory, outputs_memory;
-static const uint8_t *circuit_bytes, *circuit_kinds;
+static const uint8_t *circuit_bytes;
 static size_t circuit_length;
+static const circuit *counted_circuit; /* NULL: its blocks are not counted */
 
 enum { AT_THE_END, AT_THE_BEGINNING, PLACEMENTS };
 
@@ -78,12 +80,17 @@ static void *lend(const guarded *memory, const void *bytes, size_t length, unsig
     return placed(memory, memory->lent, length, placement);
 }
 
-void lend_circuit(const uint8_t *bytes, size_t length, const uint8_t *kinds) {
+void lend_bytes(const uint8_t *bytes, size_t length) {
     circuit_bytes = bytes;
     circuit_length = length;
-    circuit_kinds = kinds;
+    counted_circuit = NULL;
     for (unsigned placement = 0; placement < PLACEMENTS; placement++)
         lend(&circuit_memory, bytes, length, placement);
+}
+
+void lend_circuit(const circuit *made) {
+    lend_bytes(made->bytes, made->length);
+    counted_circuit = made;
 }
 
 void copy_words(lent_words *to, const lent_words *from) {
@@ -217,9 +224,11 @@ static void compare_placed(unsigned placement) {
 }
 
 static void count_blocks(void) {
-    const int32_t done = before.record[SERIFDOVE_DONE];
-    for (size_t k = 1; circuit_kinds != NULL && k <= want.first; k++)
-        worked_out[circuit_kinds[(size_t)done + k]]++;
+    const unsigned done = (unsigned)before.record[SERIFDOVE_DONE];
+    for (unsigned k = done + 1; counted_circuit != NULL && k <= done + want.first; k++) {
+        worked_out[counted_circuit->kinds[k]]++;
+        count_ends(counted_circuit, k, before.record, want_words->record);
+    }
 }
 
 call run_of(uint32_t c) { return (call){.name = RUN, .c = c}; }

@@ -32,8 +32,9 @@ bool same_words(const lent_words *a, const lent_words *b);
 /* Before all else: which calls stand for the archive's. */
 void begin_comparing(const side *archive);
 
-/* The circuit of the calls that follow, and the kinds of its blocks; those are NULL for one that is refused. */
-void lend_circuit(const uint8_t *bytes, size_t length, const uint8_t *kinds);
+/* The circuit of the calls that follow, which stays as it is meanwhile; or any bytes, of which no block is counted. */
+void lend_circuit(const circuit *made);
+void lend_bytes(const uint8_t *bytes, size_t length);
 
 /* Makes the call; `words` become what it leaves. A difference ends the program. `scenario` tells what is being tried. */
 serifdove_answer compare_call(const char *scenario, lent_words *words, const call *made);
@@ -46,7 +47,8 @@ _Noreturn void tell_mismatch(const char *what);
 
 uint64_t calls_compared(void);
 
-/* Prints how often each call got each number, and how often each kind was worked out. False where one was never met. */
+/* Prints how often each call got each number, how often each kind was worked out, and what tests/ends.h counts. False where one was
+   never met. */
 bool report_calls(void);
 
 #endif

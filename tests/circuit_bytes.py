@@ -3,7 +3,7 @@ BLOCK, ROW = 0x10, 0x30
 RETENTIVE = 1  # an option
 INVERTED = 0x80  # added to a class
 DIGITAL_BLOCK, ANALOG_BLOCK = 6, 9  # classes
-INPUTS_OF = {1: 4, 2: 4, 3: 4, 4: 4, 5: 4, 6: 4, 7: 2, 8: 1, 9: 1, 10: 2, 11: 2, 12: 3, 13: 1, 14: 2, 15: 3, 16: 1, 17: 3, 18: 1}  # by kind
+INPUTS_OF = {1: 4, 2: 4, 3: 4, 4: 4, 5: 4, 6: 4, 7: 2, 8: 1, 9: 1, 10: 2, 11: 2, 12: 3, 13: 1, 14: 2, 15: 3, 16: 1, 17: 3, 18: 1, 19: 1}  # by kind
 
 
 def fields_of(circuit):

@@ -41,12 +41,11 @@ int32_t between(chance *with, int32_t least, int32_t greatest) {
 int32_t held_to(int32_t value, int32_t least, int32_t greatest) { return value < least ? least : value > greatest ? greatest : value; }
 
 int32_t usual_value(chance *with, int32_t least, int32_t greatest) {
-    static const int32_t usual[] = {0,  1,  3,   10,   99,   100,   101,   333,  500,
-                                    -1, -3, -10, -100, -333, -1000, 32767, 1000, -32768};
+    static const int32_t usual[] = {0,  1,  3,   10,   99,   100,   101,   333,   500,    1000,   3276,  3277,
+                                    -1, -3, -10, -100, -333, -1000, -3276, -3277, -32767, -32768, 32766, 32767};
     if (once_in(with, 4))
         return between(with, least, greatest);
-    const int32_t value = usual[below(with, sizeof usual / sizeof *usual)];
-    return value < least || value > greatest ? least : value;
+    return held_to(usual[below(with, sizeof usual / sizeof *usual)], least, greatest);
 }
 
 /* ---- the kinds */
@@ -70,11 +69,14 @@ const shape shapes[KINDS + 1] = {
     [16] = {"a", 4, {-1000, -10000, -20000, -20000}, {1000, 10000, 20000, 20000}, false},
     [17] = {"ddd", 2, {0, 0}, {MOST_COUNT, MOST_COUNT}, true},
     [18] = {"d", 4, {0, 0, 0, 0}, {2, 9999, 9999, 9999}, true},
+    [19] = {"a", 2, {-1000, -10000}, {1000, 10000}, false},
 };
 
 unsigned times_of(unsigned kind) { return kind == 9 || kind == 10 ? 1 : kind == STAIRWAY ? 3 : 0; }
 
 int32_t greatest_time(int32_t base) { return base == 0 ? 9999 : 5999; }
+
+bool is_analog(unsigned kind) { return kind == MULTIPLEXER || kind == AMPLIFIER; }
 
 unsigned inputs_of(unsigned kind) { return (unsigned)strlen(shapes[kind].inputs); }
 
@@ -174,7 +176,9 @@ int32_t ticks_of(const circuit *c, unsigned number, unsigned i) {
     return factor[parameter_of(c, number, 0)] * parameter_of(c, number, i);
 }
 
-int32_t actual_of(int32_t input, int32_t a, int32_t b) { return input * a / 100 + b; }
+int32_t unheld_of(int32_t input, int32_t a, int32_t b) { return input * a / 100 + b; }
+
+int32_t actual_of(int32_t input, int32_t a, int32_t b) { return held_to(unheld_of(input, a, b), LEAST_VALUE, GREATEST_VALUE); }
 
 /* How many destinations of each class there are; M and AM go as far in connectors. */
 typedef unsigned rooms[5];
@@ -194,6 +198,7 @@ void destination_of(unsigned k, unsigned *class, unsigned *number) { destination
 
 typedef struct {
     bool lively;
+    bool analog;          /* most blocks are on analog values, and amplifiers read what amplifiers write */
     const unsigned *room; /* all_rooms or rooms_of_0ba6 */
 } manner;
 
@@ -208,6 +213,17 @@ static unsigned random_number(chance *with, unsigned class, const manner *in) {
     return (unsigned)between(with, 1, (int32_t)greatest);
 }
 
+/* A block of this sort among those so far, found from one by chance on; 0 where there is none. */
+static unsigned some_block(const circuit *c, chance *with, bool analog) {
+    const unsigned from = c->blocks == 0 ? 0 : below(with, c->blocks);
+    for (unsigned i = 0; i < c->blocks; i++) {
+        const unsigned number = (from + i) % c->blocks + 1;
+        if (is_analog(c->kinds[number]) == analog)
+            return number;
+    }
+    return 0;
+}
+
 /* A connector that is allowed at an input of this sort, or as such a row's source. Blocks up to `blocks` may be named. */
 static void put_random_connector(const circuit *c, chance *with, uint8_t *at, bool digital, bool unused_allowed, const manner *in) {
     static const unsigned digital_classes[] = {6, 1, 2, 3, 4, 0}, analog_classes[] = {9, 7, 8};
@@ -215,8 +231,8 @@ static void put_random_connector(const circuit *c, chance *with, uint8_t *at, bo
     if (in->lively && (class == 2 || class == 3) && !once_in(with, 4))
         class = 1;
     if (class == 6 || class == 9) {
-        const unsigned named = c->blocks == 0 ? 0 : 1 + below(with, c->blocks);
-        if (named != 0 && (c->kinds[named] == 15) == (class == 9)) {
+        const unsigned named = some_block(c, with, class == 9);
+        if (named != 0) {
             put_connector(at, class == 6 && once_in(with, 2) ? 0x86 : class, named);
             return;
         }
@@ -239,23 +255,29 @@ void random_parameters(chance *with, unsigned kind, int32_t *values) {
     random_times(with, kind, values, greatest_time(values[0]));
 }
 
-/* On and Off, or Δ, near the actual values of usual inputs. */
+/* Gain and offset. */
+static void lively_gain(chance *with, int32_t *values) {
+    static const int32_t gains[] = {-1000, -1000, -150, -101, -100, -99, -33, -1, 0, 1, 7, 33, 99, 100, 101, 200, 1000, 1000};
+    values[0] = gains[below(with, sizeof gains / sizeof *gains)];
+    values[1] = once_in(with, 2) ? 0 : once_in(with, 4) ? between(with, -10000, 10000) : between(with, -10, 10);
+}
+
+/* What a block of this kind may judge at this gain and offset, or one beside; x and y are in this range. */
+static int32_t lively_judged(chance *with, unsigned kind, const int32_t *gain, int32_t least, int32_t greatest) {
+    const int32_t x = actual_of(usual_value(with, least, greatest), gain[0], gain[1]);
+    const int32_t y = kind == COMPARATOR ? actual_of(usual_value(with, least, greatest), gain[0], gain[1]) : 0;
+    return x - y + between(with, -1, 1);
+}
+
+/* Gain and offset; On and Off, or Δ, near what is judged of usual inputs, analog ones or any. */
 static void lively_thresholds(chance *with, unsigned kind, int32_t *values) {
-    static const int32_t gains[] = {-1000, -101, -100, -99, -33, -1, 0, 1, 7, 33, 99, 100, 101, 1000};
-    const int32_t a = gains[below(with, sizeof gains / sizeof *gains)];
-    const int32_t b = once_in(with, 2) ? 0 : once_in(with, 4) ? between(with, -10000, 10000) : between(with, -10, 10);
-    int32_t met[2];
-    for (unsigned i = 0; i < 2; i++) {
-        met[i] = actual_of(usual_value(with, 0, 1000), a, b) + between(with, -1, 1);
-        if (kind == 14)
-            met[i] -= actual_of(usual_value(with, 0, 1000), a, b);
-        met[i] = held_to(met[i], -20000, 20000);
-    }
-    const int32_t off = once_in(with, 3) ? held_to(met[0] + between(with, -2, 2), -20000, 20000) : met[1];
-    values[0] = a;
-    values[1] = b;
-    values[2] = met[0];
-    values[3] = kind == 16 ? held_to(off - met[0], -20000, 20000) : off;
+    const bool of_inputs = once_in(with, 2);
+    const int32_t least = of_inputs ? 0 : LEAST_VALUE, greatest = of_inputs ? 1000 : GREATEST_VALUE;
+    lively_gain(with, values);
+    const int32_t on = held_to(lively_judged(with, kind, values, least, greatest), -20000, 20000);
+    const int32_t off = once_in(with, 3) ? on + between(with, -2, 2) : lively_judged(with, kind, values, least, greatest);
+    values[2] = on;
+    values[3] = held_to(kind == DIFFERENTIAL ? off - on : off, -20000, 20000);
 }
 
 /* On and Off near each other, near what a few scans count up to from 0 or near the greatest count. */
@@ -273,19 +295,23 @@ static void lively_parameters(chance *with, unsigned kind, int32_t *values) {
     }
     if (kind == COUNTER && !once_in(with, 8))
         lively_counts(with, values);
-    if (kind == 15)
+    if (kind == MULTIPLEXER)
         for (unsigned i = 0; i < 4; i++)
-            values[i] = usual_value(with, -32768, 32767);
-    if (kind == 13 || kind == 14 || kind == 16)
+            values[i] = usual_value(with, LEAST_VALUE, GREATEST_VALUE);
+    if (kind == 13 || kind == COMPARATOR || kind == DIFFERENTIAL)
         lively_thresholds(with, kind, values);
+    if (kind == AMPLIFIER)
+        lively_gain(with, values);
 }
 
-/* A counter that is not reset, a switch that one of the first inputs triggers. */
+/* A counter that is not reset, a switch that one of the first inputs triggers, an amplifier of one of the first analog flags. */
 static void put_lively_connector(chance *with, unsigned kind, uint8_t *first) {
     if (kind == COUNTER)
         put_connector(first, 0, 0);
     if (kind == STAIRWAY)
         put_connector(first, once_in(with, 2) ? 1 : 0x81, 1 + below(with, 4));
+    if (kind == AMPLIFIER && once_in(with, 2))
+        put_connector(first, 8, 1 + below(with, 4));
 }
 
 static void add_random_block(circuit *c, chance *with, unsigned kind, const manner *in) {
@@ -349,12 +375,19 @@ static void add_random_rows(circuit *c, chance *with, unsigned rows, const manne
     }
 }
 
+static unsigned some_kind(chance *with, const manner *in) {
+    static const unsigned analog_kinds[] = {13, COMPARATOR, MULTIPLEXER, DIFFERENTIAL, AMPLIFIER, AMPLIFIER, AMPLIFIER};
+    if (in->analog && !once_in(with, 4))
+        return analog_kinds[below(with, sizeof analog_kinds / sizeof *analog_kinds)];
+    return 1 + below(with, KINDS);
+}
+
 static void make_circuit(circuit *c, chance *with, unsigned n, unsigned rows, unsigned last_kind, const manner *in) {
     begin_circuit(c, n);
     for (unsigned k = 1; k <= n; k++) {
-        unsigned kind = k == n && last_kind != 0 ? last_kind : 1 + below(with, KINDS);
+        unsigned kind = k == n && last_kind != 0 ? last_kind : some_kind(with, in);
         if (kind == 12 && c->registers == 4)
-            kind = 15;
+            kind = MULTIPLEXER;
         add_random_block(c, with, kind, in);
         if (once_in(with, 2))
             add_random_label(c, with);
@@ -364,15 +397,15 @@ static void make_circuit(circuit *c, chance *with, unsigned n, unsigned rows, un
 }
 
 void random_circuit(circuit *c, chance *with, unsigned n, unsigned rows, unsigned last_kind) {
-    make_circuit(c, with, n, rows, last_kind, &(manner){false, all_rooms});
+    make_circuit(c, with, n, rows, last_kind, &(manner){false, false, all_rooms});
 }
 
 void lively_circuit(circuit *c, chance *with, unsigned n, unsigned rows, unsigned last_kind) {
-    make_circuit(c, with, n, rows, last_kind, &(manner){true, all_rooms});
+    make_circuit(c, with, n, rows, last_kind, &(manner){true, once_in(with, 3), all_rooms});
 }
 
 void fitting_circuit(circuit *c, chance *with, unsigned n, unsigned rows, unsigned last_kind) {
-    make_circuit(c, with, n, rows, last_kind, &(manner){false, rooms_of_0ba6});
+    make_circuit(c, with, n, rows, last_kind, &(manner){false, false, rooms_of_0ba6});
 }
 
 /* ---- the bench's circuits */
@@ -383,8 +416,8 @@ void full_circuit(circuit *c, unsigned n) {
         const unsigned turn = 1 + (k - 1) % KINDS, kind = turn == 12 && c->registers == 4 ? 5 : turn;
         add_plain_block(c, kind);
         uint8_t *at = c->bytes + c->place[c->fields - 1] + input_at(0);
-        if (k > 1 && (shapes[kind].inputs[0] == 'a') == (c->kinds[k - 1] == 15))
-            put_connector(at, c->kinds[k - 1] == 15 ? 9 : 6, k - 1);
+        if (k > 1 && (shapes[kind].inputs[0] == 'a') == is_analog(c->kinds[k - 1]))
+            put_connector(at, is_analog(c->kinds[k - 1]) ? 9 : 6, k - 1);
         add_label(c, (const uint8_t *)"north light no.1", 16);
     }
     for (unsigned k = 0; n > 0 && k < DESTINATIONS; k++) {
@@ -393,7 +426,7 @@ void full_circuit(circuit *c, unsigned n) {
         if (class <= 2)
             add_row(c, class, number, 6, 1);
         else
-            add_row(c, class, number, n < 15 ? 7 : 9, n < 15 ? 1 : 15);
+            add_row(c, class, number, n < MULTIPLEXER ? 7 : 9, n < MULTIPLEXER ? 1 : MULTIPLEXER);
     }
     end_circuit(c);
 }

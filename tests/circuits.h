@@ -7,7 +7,7 @@
 #include <stdint.h>
 
 enum {
-    KINDS = 18,
+    KINDS = 19,
     MOST_BLOCKS = 400,
     DESTINATIONS = 20 + 64 + 8 + 64,
     /* the longest circuit that is accepted: multiplexers with full labels, a row for each destination */
@@ -46,10 +46,13 @@ typedef struct {
 
 extern const shape shapes[KINDS + 1];
 
-enum { COUNTER = 17, STAIRWAY = 18, MOST_COUNT = 999999 };
+enum { COMPARATOR = 14, MULTIPLEXER, DIFFERENTIAL, COUNTER, STAIRWAY, AMPLIFIER, MOST_COUNT = 999999 };
+
+enum { LEAST_VALUE = -32768, GREATEST_VALUE = 32767 }; /* of an analog flag and an analog block's output */
 
 unsigned times_of(unsigned kind);    /* how many parameters behind the base are times, none above the one before it */
 int32_t greatest_time(int32_t base); /* that a parameter may say */
+bool is_analog(unsigned kind);       /* its output is a value, and class 9 names it */
 unsigned inputs_of(unsigned kind);
 size_t input_at(unsigned i);                    /* where input i stands, from the block's tag on */
 size_t parameter_at(unsigned kind, unsigned i); /* where parameter i stands, from the block's tag on */
@@ -84,6 +87,7 @@ void add_plain_block(circuit *c, unsigned kind);
 
 int32_t parameter_of(const circuit *c, unsigned number, unsigned i); /* parameter i of this block */
 int32_t ticks_of(const circuit *c, unsigned number, unsigned i);     /* likewise, a time, in ticks; T is parameter 1 */
+int32_t unheld_of(int32_t input, int32_t a, int32_t b);              /* the actual value before it is held */
 int32_t actual_of(int32_t input, int32_t a, int32_t b);              /* the actual value */
 
 /* Parameters that are allowed; the ends of each range are often met. */
@@ -95,7 +99,8 @@ void destination_of(unsigned k, unsigned *class, unsigned *number);
 /* An accepted circuit with n blocks and so many rows, all else by chance; the last block has this kind, if it is not 0. */
 void random_circuit(circuit *c, chance *with, unsigned n, unsigned rows, unsigned last_kind);
 
-/* Likewise, with few inputs and flags, short settings, and thresholds near what they judge or count: in its scans much happens. */
+/* Likewise, with few inputs and flags, short settings, thresholds near what they judge or count, and amplifiers that read one
+   another, through analog flags too: in its scans much happens. */
 void lively_circuit(circuit *c, chance *with, unsigned n, unsigned rows, unsigned last_kind);
 
 /* As random_circuit, and it fits the series 0BA6: n up to 200, rows up to 51. */

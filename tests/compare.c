@@ -494,6 +494,14 @@ static serifdove_answer times_in_any_order(const uint8_t *circuit, size_t length
     return oracle_check(times_in_order(circuit, length), length);
 }
 
+static serifdove_answer digital_amplifiers(const uint8_t *circuit, size_t length) {
+    return oracle_check(no_digital_amplifiers(circuit, length), length);
+}
+
+static serifdove_answer multiplexers_alone_are_analog(const uint8_t *circuit, size_t length) {
+    return oracle_check(no_analog_amplifiers(circuit, length), length);
+}
+
 static serifdove_answer reads_behind(const uint8_t *circuit, size_t length) {
     const volatile uint8_t *at = circuit;
     (void)at[length];
@@ -520,6 +528,8 @@ static const struct {
     {"wrong_place", &reference, wrong_place},
     {"wrong_rows", &reference, wrong_rows},
     {"times_in_any_order", &proved, times_in_any_order},
+    {"digital_amplifiers", &proved, digital_amplifiers},
+    {"multiplexers_alone_are_analog", &proved, multiplexers_alone_are_analog},
     {"reads_behind", &proved, reads_behind},
     {"reads_before", &proved, reads_before},
     {"writes", &proved, writes},

@@ -41,8 +41,11 @@ typedef struct {
 #define COMPARATOR(x, y) "10 0018 0E 00 " x " " y " " ZERO ZERO ZERO ZERO
 #define MULTIPLEXER(connector) "10 001B 0F 00 " connector " " NONE NONE ZERO ZERO ZERO ZERO
 #define DIFFERENTIAL(on, delta) "10 0015 10 00 " AI1 ZERO ZERO on " " delta " "
+#define DIFFERENTIAL_OF(connector) "10 0015 10 00 " connector " " ZERO ZERO ZERO ZERO
 #define COUNTER(on, off) "10 0013 11 00 " NONE I1 NONE on " " off " "
 #define STAIRWAY(base, t, warning, dark) "10 0015 12 00 " I1 base " " t " " warning " " dark " "
+#define AMPLIFIER(connector) "10 000D 13 00 " connector " " ZERO ZERO
+#define AMPLIFIER_OF(a, b) "10 000D 13 00 " AI1 a " " b " "
 #define UNKNOWN_KIND "10 0001 14 "
 
 static const named_case cases[] = {
@@ -81,6 +84,7 @@ static const named_case cases[] = {
     {"block of an unknown kind cut", 1, 0, 0, H("0001") "> 10 0002 14"},
     {"counter cut", 1, 0, 0, H("0001") "> 10 0013 11 00 " NONE I1 NONE ZERO "000000"},
     {"stairway switch cut", 1, 0, 0, H("0001") "> 10 0015 12 00 " I1 ZERO ZERO ZERO "000000"},
+    {"amplifier cut", 1, 0, 0, H("0001") "> 10 000D 13 00 " AI1 ZERO "000000"},
     {"block of a wrong length cut", 1, 0, 0, H("0001") "> 10 000F 01 00 " I1 NONE NONE NONE},
     {"block too many cut", 1, 0, 0, H("0000") "> 10 000E 01"},
     {"block behind a row cut", 1, 0, 0, H("0000") ROW("01 01", I1) "> 10 000E 01"},
@@ -135,6 +139,12 @@ static const named_case cases[] = {
     {"stairway switch with one time", 2, 0, 0, H("0001") "> 10 000D 12 00 " I1 ZERO ZERO E},
     {"stairway switch with two times", 2, 0, 0, H("0001") "> 10 0011 12 00 " I1 ZERO ZERO ZERO E},
     {"stairway switch with an R", 2, 0, 0, H("0001") "> 10 0018 12 00 " I1 NONE ZERO ZERO ZERO ZERO E},
+    {"amplifier of one byte", 2, 0, 0, H("0001") "> 10 0001 13 " E},
+    {"amplifier without B", 2, 0, 0, H("0001") "> 10 0009 13 00 " AI1 ZERO E},
+    {"amplifier with On and Off", 2, 0, 0, H("0001") "> 10 0015 13 00 " AI1 ZERO ZERO ZERO ZERO E},
+    {"amplifier with two inputs", 2, 0, 0, H("0001") "> 10 0010 13 00 " AI1 AI1 ZERO ZERO E},
+    {"amplifier of 12 bytes", 2, 0, 0, H("0001") "> 10 000C 13 00 " AI1 ZERO "000000 " E},
+    {"amplifier of 14 bytes", 2, 0, 0, H("0001") "> 10 000E 13 00 " AI1 ZERO ZERO "00 " E},
     {"block behind a row", 2, 0, 0, H("0000") ROW("01 01", I1) "> " AND(I1) E},
     {"block behind a row, all blocks there", 2, 0, 0, H("0001") AND(I1) ROW("01 01", I1) "> " AND(I1) E},
     {"block of an unknown kind behind a row", 2, 0, 0, H("0000") ROW("01 01", I1) "> " UNKNOWN_KIND E},
@@ -192,6 +202,7 @@ static const named_case cases[] = {
     /* 5: kinds and options */
     {"kind 0", 5, 0, 0, H("0001") "> 10 000E 00 00 " I1 NONE NONE NONE E},
     {"kind 20", 5, 0, 0, H("0001") "> 10 000E 14 00 " I1 NONE NONE NONE E},
+    {"kind 20 with the content of an amplifier", 5, 0, 0, H("0001") "> 10 000D 14 00 " AI1 ZERO ZERO E},
     {"kind 0x81", 5, 0, 0, H("0001") "> 10 000E 81 00 " I1 NONE NONE NONE E},
     {"kind 255", 5, 0, 0, H("0001") "> 10 000E FF 00 " I1 NONE NONE NONE E},
     {"unknown kind, one byte", 5, 0, 0, H("0001") "> " UNKNOWN_KIND E},
@@ -207,6 +218,9 @@ static const named_case cases[] = {
     {"option bits 0 and 7 on a relay", 5, 0, 0, H("0001") "> " RELAY("81") E},
     {"option bit 1 on a counter", 5, 0, 0, H("0001") "> 10 0013 11 02 " NONE I1 NONE ZERO ZERO E},
     {"option bit 7 on a stairway switch", 5, 0, 0, H("0001") "> 10 0015 12 80 " I1 ZERO ZERO ZERO ZERO E},
+    {"retentive amplifier", 5, 0, 0, H("0001") "> 10 000D 13 01 " AI1 ZERO ZERO E},
+    {"option bit 1 on an amplifier", 5, 0, 0, H("0001") "> 10 000D 13 02 " AI1 ZERO ZERO E},
+    {"option and gain", 5, 0, 0, H("0001") "> 10 000D 13 01 " AI1 "000003E9 " ZERO E},
     {"option and times out of order", 5, 0, 0, H("0001") "> 10 0015 12 02 " I1 ZERO ZERO ONE ZERO E},
     {"option and connector", 5, 0, 0, H("0001") "> 10 0005 08 01 05 0000 " E},
     {"option and own block", 5, 0, 0, H("0001") "> 10 0005 08 01 06 0001 " E},
@@ -253,6 +267,16 @@ static const named_case cases[] = {
     {"analog class names a comparator", 6, 0, 0, H("0002") COMPARATOR(AI1, AI1) "> " TRIGGER("09 0001") E},
     {"analog class names a counter", 6, 0, 0, H("0002") COUNTER(ZERO, ZERO) "> " TRIGGER("09 0001") E},
     {"analog class names a stairway switch", 6, 0, 0, H("0002") STAIRWAY(ZERO, ZERO, ZERO, ZERO) "> " TRIGGER("09 0001") E},
+    {"digital class names an amplifier", 6, 0, 0, H("0002") AMPLIFIER(AI1) "> " NOT("06 0001") E},
+    {"digital class names an amplifier, inverted", 6, 0, 0, H("0002") AMPLIFIER(AI1) "> " AND4(I1, NONE, NONE, "86 0001") E},
+    {"digital class names an amplifier, at a multiplexer", 6, 0, 0, H("0002") AMPLIFIER(AI1) "> " MULTIPLEXER("06 0001") E},
+    {"amplifier of an amplifier by the digital class", 6, 0, 0, H("0002") AMPLIFIER(AI1) "> " AMPLIFIER("06 0001") E},
+    {"amplifier of an AND", 6, 0, 0, H("0002") AND(I1) "> " AMPLIFIER("09 0001") E},
+    {"amplifier of a differential trigger", 6, 0, 0, H("0002") DIFFERENTIAL(ZERO, ZERO) "> " AMPLIFIER("09 0001") E},
+    {"amplifier of an input", 6, 0, 0, H("0001") "> " AMPLIFIER(I1) E},
+    {"amplifier of nothing", 6, 0, 0, H("0001") "> " AMPLIFIER(NONE) E},
+    {"amplifier of AM65", 6, 0, 0, H("0001") "> " AMPLIFIER("08 0041") E},
+    {"amplifier of an amplifier, inverted", 6, 0, 0, H("0002") AMPLIFIER(AI1) "> " AMPLIFIER("89 0001") E},
     {"second connector", 6, 0, 0, H("0001") "> " AND4(I1, "05 0000", NONE, NONE) E},
     {"fourth connector", 6, 0, 0, H("0001") "> " AND4(I1, I1, I1, "01 0019") E},
     {"second analog connector", 6, 0, 0, H("0001") "> " COMPARATOR(AI1, NONE) E},
@@ -263,6 +287,7 @@ static const named_case cases[] = {
     {"own block inverted by the analog class", 6, 0, 0, H("0001") "> " TRIGGER("89 0001") E},
     {"connector and parameter", 6, 0, 0, H("0001") "> 10 000D 09 00 01 0019 " MINUS_ONE ZERO E},
     {"connector and times out of order", 6, 0, 0, H("0001") "> 10 0015 12 00 01 0019 " ZERO ZERO ONE ZERO E},
+    {"connector and gain", 6, 0, 0, H("0001") "> 10 000D 13 00 " NONE "000003E9 " ZERO E},
     {"connector and index used twice", 6, 0, 0, H("0002") REGISTER(I1, ONE, ONE) "> " REGISTER("01 0000", ONE, ONE) E},
 
     /* 6: connectors of rows */
@@ -283,6 +308,13 @@ static const named_case cases[] = {
     {"row AQ from an AND by the analog class", 6, 0, 0, H("0001") AND(I1) "> " ROW("03 01", "09 0001") E},
     {"row AQ from a counter by the analog class", 6, 0, 0, H("0001") COUNTER(ZERO, ZERO) "> " ROW("03 01", "09 0001") E},
     {"row Q from a multiplexer by the analog class", 6, 0, 0, H("0001") MULTIPLEXER(I1) "> " ROW("01 01", "09 0001") E},
+    {"row Q from an amplifier by the digital class", 6, 0, 0, H("0001") AMPLIFIER(AI1) "> " ROW("01 01", "06 0001") E},
+    {"row Q from an amplifier by the analog class", 6, 0, 0, H("0001") AMPLIFIER(AI1) "> " ROW("01 01", "09 0001") E},
+    {"row M from an amplifier by the digital class", 6, 0, 0, H("0001") AMPLIFIER(AI1) "> " ROW("02 01", "06 0001") E},
+    {"row M from an amplifier by the digital class, inverted", 6, 0, 0, H("0001") AMPLIFIER(AI1) "> " ROW("02 01", "86 0001") E},
+    {"row M from an amplifier by the analog class", 6, 0, 0, H("0001") AMPLIFIER(AI1) "> " ROW("02 01", "09 0001") E},
+    {"row AQ from an amplifier by the digital class", 6, 0, 0, H("0001") AMPLIFIER(AI1) "> " ROW("03 01", "06 0001") E},
+    {"row AM from an amplifier by the digital class", 6, 0, 0, H("0001") AMPLIFIER(AI1) "> " ROW("04 01", "06 0001") E},
     {"row of unknown class, unused", 6, 0, 0, H("0000") "> " ROW("00 00", NONE) E},
     {"row of unknown class, inverted unused", 6, 0, 0, H("0000") "> " ROW("05 01", "80 0000") E},
     {"row of unknown class, class 5", 6, 0, 0, H("0000") "> " ROW("05 01", "05 0001") E},
@@ -306,6 +338,10 @@ static const named_case cases[] = {
     {"later block that is digital, by the analog class", 7, 0, 0, H("0002") "> " TRIGGER("09 0002") AND(I1) E},
     {"trigger names itself by the analog class", 7, 0, 0, H("0001") "> " TRIGGER("09 0001") E},
     {"multiplexer names itself by the digital class", 7, 0, 0, H("0001") "> " MULTIPLEXER("06 0001") E},
+    {"amplifier names itself", 7, 0, 0, H("0001") "> " AMPLIFIER("09 0001") E},
+    {"later block that is an amplifier", 7, 0, 0, H("0002") "> " AMPLIFIER("09 0002") AMPLIFIER(AI1) E},
+    {"later block that is an amplifier, by the digital class", 7, 0, 0, H("0002") "> " NOT("06 0002") AMPLIFIER(AI1) E},
+    {"own block and gain", 7, 0, 0, H("0001") "> 10 000D 13 00 09 0001 000003E9 " ZERO E},
     {"own block at the fourth input", 7, 0, 0, H("0001") "> " AND4(I1, I1, I1, "06 0001") E},
     {"own block and parameter", 7, 0, 0, H("0001") "> 10 000D 09 00 06 0001 00000003 " ZERO E},
     {"own block and times out of order", 7, 0, 0, H("0001") "> 10 0015 12 00 06 0001 " ZERO ZERO ONE ZERO E},
@@ -356,6 +392,11 @@ static const named_case cases[] = {
     {"hours: T, T! and T!L 9999", 8, 0, 0, H("0001") "> " STAIRWAY("00000002", "0000270F", "0000270F", "0000270F") E},
     {"base 3 of a stairway switch", 8, 0, 0, H("0001") "> " STAIRWAY("00000003", ZERO, ZERO, ZERO) E},
     {"base -1 of a stairway switch", 8, 0, 0, H("0001") "> " STAIRWAY(MINUS_ONE, ZERO, ZERO, ZERO) E},
+    {"gain 1001 of an amplifier", 8, 0, 0, H("0001") "> " AMPLIFIER_OF("000003E9", ZERO) E},
+    {"gain -1001 of an amplifier", 8, 0, 0, H("0001") "> " AMPLIFIER_OF("FFFFFC17", ZERO) E},
+    {"B 10001 of an amplifier", 8, 0, 0, H("0001") "> " AMPLIFIER_OF(ZERO, "00002711") E},
+    {"B -10001 of an amplifier", 8, 0, 0, H("0001") "> " AMPLIFIER_OF(ZERO, "FFFFD8EF") E},
+    {"the least gain of four bytes", 8, 0, 0, H("0001") "> " AMPLIFIER_OF(LEAST, ZERO) E},
     {"V2 of two bytes' sign", 8, 0, 0, H("0001") "> 10 001B 0F 00 " NONE NONE NONE ZERO "0000FFFF " ZERO ZERO E},
 
     /* 9: destinations */
@@ -365,6 +406,7 @@ static const named_case cases[] = {
     {"destination class 255", 9, 0, 0, H("0000") "> " ROW("FF FF", "84 0001") E},
     {"destination class 5 from an analog input", 9, 0, 0, H("0000") "> " ROW("05 01", AI1) E},
     {"destination class 5, digital class names a multiplexer", 9, 0, 0, H("0002") AND(I1) MULTIPLEXER(I1) "> " ROW("05 01", "06 0002") E},
+    {"destination class 5, digital class names an amplifier", 9, 0, 0, H("0001") AMPLIFIER(AI1) "> " ROW("05 01", "06 0001") E},
     {"destination class 5, analog class names an AND", 9, 0, 0, H("0001") AND(I1) "> " ROW("05 01", "09 0001") E},
     {"Q0", 9, 0, 0, H("0000") "> " ROW("01 00", I1) E},
     {"Q21", 9, 0, 0, H("0000") "> " ROW("01 15", I1) E},
@@ -425,6 +467,15 @@ static const named_case cases[] = {
     {"ends of V", 0, 1, 0, H("0001") "10 001B 0F 00 " NONE NONE NONE "FFFF8000 00007FFF " ZERO MINUS_ONE E},
     {"a multiplexer named by blocks and a row", 0, 3, 2,
      H("0003") MULTIPLEXER(I1) TRIGGER("09 0001") COMPARATOR("09 0001", "08 0040") ROW("03 08", "09 0001") ROW("01 01", "06 0003") E},
+    {"ends of A and B", 0, 4, 0,
+     H("0004") AMPLIFIER_OF("000003E8", "00002710") AMPLIFIER_OF("FFFFFC18", "FFFFD8F0") AMPLIFIER_OF("000003E8", "FFFFD8F0")
+     AMPLIFIER_OF("FFFFFC18", "00002710") E},
+    {"amplifiers of all that is analog", 0, 5, 0,
+     H("0005") AMPLIFIER("07 0008") AMPLIFIER("08 0040") MULTIPLEXER(I1) AMPLIFIER("09 0003") AMPLIFIER("09 0004") E},
+    {"an amplifier named by blocks and rows", 0, 5, 3,
+     H("0005") AMPLIFIER(AI1) TRIGGER("09 0001") COMPARATOR("09 0001", "09 0001") DIFFERENTIAL_OF("09 0001") AMPLIFIER("09 0001")
+     ROW("03 01", "09 0001") ROW("04 01", "09 0005") ROW("01 01", "06 0003") E},
+    {"an amplifier and an analog flag in a ring", 0, 1, 1, H("0001") AMPLIFIER("08 0001") ROW("04 01", "09 0001") E},
     {"rows name any block", 0, 2, 2, H("0002") AND(I1) AND(I1) ROW("01 02", "06 0002") ROW("01 01", "06 0001") E},
     {"M1 from M2 and M2 from M1", 0, 0, 2, H("0000") ROW("02 01", "04 0002") ROW("02 02", "04 0001") E},
     {"one number in each class of destination", 0, 0, 4, H("0000") ROW("01 01", I1) ROW("02 01", I1) ROW("03 01", AI1) ROW("04 01", AI1) E},
@@ -478,16 +529,17 @@ void each_named(known_visitor *visit) {
     }
 }
 
-/* ---- families: block 3 of three, behind an AND and a multiplexer, with one thing changed */
+/* ---- families: block 4 of four, behind an AND, a multiplexer and an amplifier, with one thing changed */
 
 static known_visitor *visited;
 static circuit made;
 static size_t last_block;
 
-static void make_three(unsigned kind) {
-    begin_circuit(&made, 3);
+static void make_four(unsigned kind) {
+    begin_circuit(&made, 4);
     add_plain_block(&made, 1);
     add_plain_block(&made, 15);
+    add_plain_block(&made, 19);
     add_plain_block(&made, kind);
     last_block = made.place[made.fields - 1];
     end_circuit(&made);
@@ -504,7 +556,7 @@ static void lengths(unsigned kind) {
     uint8_t *block;
     size_t size;
     for (int change = -1; change <= 1; change += 2) {
-        make_three(kind);
+        make_four(kind);
         block = made.bytes + last_block;
         size = made.length - last_block - 3;
         memmove(block + size + (size_t)change, block + size, 3);
@@ -515,7 +567,7 @@ static void lengths(unsigned kind) {
 }
 
 static void options(unsigned kind) {
-    make_three(kind);
+    make_four(kind);
     for (unsigned option = 0; option < 256; option++) {
         made.bytes[last_block + 4] = (uint8_t)option;
         const bool retentive = (9 <= kind && kind <= 12) || kind == 17 || kind == 18;
@@ -527,12 +579,13 @@ typedef struct {
     unsigned class, least, greatest;
 } class_range;
 
-/* What an input or a row of each sort takes, where block 1 is an AND, block 2 a multiplexer, block 3 the own one. */
+/* What an input or a row of each sort takes, where block 1 is an AND, block 2 a multiplexer, block 3 an amplifier, block 4 the own
+   one. */
 static const class_range digital_takes[] = {
     {0, 0, 0},     {1, 1, 24},   {2, 0, 0},    {3, 0, 0},     {4, 1, 64},   {6, 1, 1},
     {0x81, 1, 24}, {0x82, 0, 0}, {0x83, 0, 0}, {0x84, 1, 64}, {0x86, 1, 1},
 };
-static const class_range analog_takes[] = {{7, 1, 8}, {8, 1, 64}, {9, 2, 2}};
+static const class_range analog_takes[] = {{7, 1, 8}, {8, 1, 64}, {9, 2, 3}};
 
 static bool takes(bool digital, unsigned class, unsigned number) {
     const class_range *all = digital ? digital_takes : analog_takes;
@@ -544,15 +597,15 @@ static bool takes(bool digital, unsigned class, unsigned number) {
 }
 
 static void connectors(unsigned kind) {
-    static const unsigned numbers[] = {0, 1, 2, 3, 4, 8, 9, 24, 25, 64, 65, 255, 256, 257, 258, 259, 400, 401, 32769, 65535};
-    make_three(kind);
+    static const unsigned numbers[] = {0, 1, 2, 3, 4, 5, 8, 9, 24, 25, 64, 65, 255, 256, 257, 258, 259, 260, 400, 401, 32769, 65535};
+    make_four(kind);
     for (unsigned i = 0; i < inputs_of(kind); i++) {
         const bool digital = shapes[kind].inputs[i] == 'd';
         uint8_t *at = made.bytes + last_block + input_at(i), before[3];
         memcpy(before, at, 3);
         for (unsigned class = 0; class < 256; class++)
             for (size_t k = 0; k < sizeof numbers / sizeof *numbers; k++) {
-                const bool own = numbers[k] == 3 && (digital ? class == 6 || class == 0x86 : class == 9);
+                const bool own = numbers[k] == 4 && (digital ? class == 6 || class == 0x86 : class == 9);
                 at[0] = (uint8_t)class;
                 put_two(at + 1, numbers[k]);
                 expect("connector of a block", takes(digital, class, numbers[k]) ? 0 : own ? 7 : 6, last_block);
@@ -573,7 +626,7 @@ static void parameter(unsigned kind, unsigned i, int64_t value, bool fits) {
 
 /* Each with the others at their least. T! and T!L, which may not be above T, have a family of their own. */
 static void parameters(unsigned kind) {
-    make_three(kind);
+    make_four(kind);
     for (unsigned i = 0; i < shapes[kind].parameters && (i < 2 || kind != 18); i++) {
         const int64_t least = shapes[kind].least[i], greatest = shapes[kind].greatest[i];
         static const int64_t off[] = {-1, -2, -256, -65536, -16777216};
@@ -594,7 +647,7 @@ static bool is_time(int32_t base, int32_t t) { return 0 <= t && t <= (base == 0 
 
 /* T alone: the other times are 0. */
 static void settings(unsigned kind) {
-    make_three(kind);
+    make_four(kind);
     for (int32_t base = 0; base <= 2; base++) {
         put_four(made.bytes + last_block + parameter_at(kind, 0), base);
         for (int32_t t = -1; t <= 10000; t++)
@@ -614,7 +667,7 @@ static void try_times(int32_t base, int32_t t, int32_t warning, int32_t dark) {
 static void three_times(void) {
     static const int32_t some[] = {INT32_MIN, -1, 0, 1, 2, 256, 5998, 5999, 6000, 9998, 9999, 10000, 65536, INT32_MAX};
     enum { SOME = sizeof some / sizeof *some };
-    make_three(18);
+    make_four(18);
     for (int32_t base = -1; base <= 3; base++) {
         for (unsigned choice = 0; choice < SOME * SOME * SOME; choice++)
             try_times(base, some[choice % SOME], some[choice / SOME % SOME], some[choice / SOME / SOME]);
@@ -628,7 +681,7 @@ static void three_times(void) {
 static void unknown_kinds(void) {
     for (unsigned unknown = 0; unknown < 256; unknown = unknown == 0 ? 20 : unknown + 1)
         for (unsigned kind = 1; kind <= KINDS; kind++) {
-            make_three(kind);
+            make_four(kind);
             made.bytes[last_block + 3] = (uint8_t)unknown;
             expect("unknown kind", 5, last_block);
         }
@@ -689,18 +742,18 @@ static void used_twice(void) {
     }
 }
 
-/* A row's connector: unused is not taken, block 3 (an OR) is. Of an unknown class: every class of the list, whatever its sort. */
+/* A row's connector: unused is not taken, block 4 (an OR) is. Of an unknown class: every class of the list, whatever its sort. */
 static void sources(void) {
     for (unsigned destination = 1; destination <= 5; destination++)
         for (unsigned class = 0; class < 256; class++)
             for (unsigned number = 0; number < 300; number++) {
-                const bool or_block = number == 3 && (class == 6 || class == 0x86);
+                const bool or_block = number == 4 && (class == 6 || class == 0x86);
                 const bool digital = class != 0 && (takes(true, class, number) || or_block), analog = takes(false, class, number);
-                const bool any_block = 1 <= number && number <= 3 && (class == 6 || class == 0x86 || class == 9);
+                const bool any_block = 1 <= number && number <= 4 && (class == 6 || class == 0x86 || class == 9);
                 const bool good = destination <= 2 ? digital : destination <= 4 ? analog : digital || analog || any_block;
                 if (number >= 70 && number < 254)
                     continue;
-                make_three(5);
+                make_four(5);
                 made.fields--;
                 made.length -= 3;
                 const size_t place = made.length;

@@ -85,6 +85,7 @@ refuses 2 0 "0100040100017f$end" 'Its length is wrong: a header has 3 bytes.'
 refuses 2 6 "${head}10000d01000100010100020000000000$end" 'Its length is wrong: kind 1, AND, has 14 bytes.'
 refuses 2 6 "${head}100012110000000000000000000000000300000002$end" 'Its length is wrong: kind 17, up/down counter, has 19 bytes.'
 refuses 2 6 "${head}1000141200000000000000000000000600000003000000$end" 'Its length is wrong: kind 18, stairway switch, has 21 bytes.'
+refuses 2 6 "${head}10000c130007000100000064000000$end" 'Its length is wrong: kind 19, analog amplifier, has 13 bytes.'
 refuses 2 6 "${head}100000$end" 'Its length is wrong: a block has a kind.'
 refuses 2 23 "$head${block}200011$(printf '41%.0s' {1..17})$end" 'Its length is wrong: a label has at most 16 bytes.'
 refuses 2 27 "$head${block}20000141200000$end" 'It is out of place: a label stands behind its block, one at most.'
@@ -96,11 +97,14 @@ refuses 1 32 "010003010001${block}2000061111111111117f" 'There begins an end fie
 refuses 1 32 "010003010001${block}200006111111111111" 'The bytes end here, after 32 of them.'
 refuses 3 0 "01000302${good#01000301}" 'the version is not 1'
 refuses 4 23 "010003010002${good#$head}" 'There begins a row (tag 30), content of 5 bytes.'
-refuses 5 6 "${head}10000e14${good#${head}10000e01}" 'kinds are 1 to 18, and only kinds 9 to 12, 17 and 18 may be retentive'
+refuses 5 6 "${head}10000e14${good#${head}10000e01}" 'kinds are 1 to 19, and only kinds 9 to 12, 17 and 18 may be retentive'
+refuses 5 6 "${head}10000d13010700010000006400000000$end" 'There begins a block (tag 10), block 1, kind 19, analog amplifier, content of 13 bytes.'
 refuses 6 6 "${head}10000e0100060002${good#${head}10000e0100010001}" 'a connector is not allowed there'
+refuses 6 22 "01000301000210000d130007000100000064000000001000050800060001$end" 'whether the block that it names is digital or analog'
 refuses 7 6 "${head}10000e0100060001${good#${head}10000e0100010001}" '       0  01 00 03 01 00 01 10 00 0e 01 00 06 00 01 01 00'
 refuses 8 6 "${head}10000d09000100010000000300000000$end" 'a parameter is out of range, or times are not in order'
 ! grep -q 'Its times' "$work/err" || wrong "an on-delay has three times: $(cat "$work/err")"
+refuses 8 6 "${head}10000d1300070001000003e900000000$end" 'There begins a block (tag 10), block 1, kind 19, analog amplifier, content of 13 bytes.'
 stairs=100015120001000100000000
 refuses 8 6 "$head${stairs}000000050000000600000002$end" 'Its times are T 5, T! 6, T!L 2: not T!L <= T! <= T.'
 refuses 8 6 "$head${stairs}000000050000000300000004$end" 'Its times are T 5, T! 3, T!L 4: not T!L <= T! <= T.'
@@ -237,9 +241,9 @@ says 0 --turn 2 --series 0Ba6 --script yard.script yard </dev/null
 {
     printf '16,1,0,4,1,4,27,132,27,129,24,1,sixteen bytes...\n16,14,0,8,6,7,8,100,0,5,5,0,\n16,15,0,4,27,132,27,0,0,1,2,3,4,0,\n'
     printf '16,12,1,4,27,4,26,0,0,%d,8,0,\n' 1 2 3 4
-    printf '16,17,1,4,27,1,1,0,0,5,4,0,\n16,18,1,4,27,2,5999,300,200,0,\n'
-    printf '16,8,0,6,%d,0,\n' {9..199}
-    printf '48,1,16,6,200\n48,2,27,4,27\n48,3,2,9,3\n48,4,6,8,6\n'
+    printf '16,17,1,4,27,1,1,0,0,5,4,0,\n16,18,1,4,27,2,5999,300,200,0,\n16,19,0,8,6,1000,10000,0,\n'
+    printf '16,8,0,6,%d,0,\n' 9 {11..199}
+    printf '48,1,16,6,200\n48,2,27,4,27\n48,3,2,9,3\n48,4,6,9,10\n'
 } >"$work/limits.csv"
 make_circuit "$work/limits.csv" "$work/limits"
 printf '' >"$work/complaints"
@@ -287,6 +291,7 @@ one_above 6 20 'block 2, kind 10, off-delay, label `lane`: its input R is M28' '
 one_above 6 6 'block 1, kind 12, shift register: its input Dir is !M28' 'M1 to M27' '8 and 9, Dir class and Dir number' 132,28 16,12,0,1,1,4,27,132,28,1,8,0,
 one_above 6 6 'block 1, kind 13, threshold trigger: its input Ax is AM64' 'AM1 to AM6' '4 and 5, Ax class and Ax number' 8,64 16,13,0,8,64,100,0,5,5,0,
 one_above 6 6 'block 1, kind 14, comparator: its input Ay is AM7' 'AM1 to AM6' '6 and 7, Ay class and Ay number' 8,7 16,14,0,8,6,8,7,100,0,5,5,0,
+one_above 6 6 'block 1, kind 19, analog amplifier: its input Ax is AM7' 'AM1 to AM6' '4 and 5, Ax class and Ax number' 8,7 16,19,0,8,7,100,0,0,
 one_above 6 6 'the output row to Q1: its connector is M28' 'M1 to M27' "$from" 4,28 48,1,1,4,28
 one_above 6 14 'the output row to M27: its connector is !M28' 'M1 to M27' "$from" 132,28 48,1,16,132,27 48,2,27,132,28
 one_above 6 6 'the output row to AM6: its connector is AM7' 'AM1 to AM6' "$from" 8,7 48,4,6,8,7
@@ -414,6 +419,69 @@ sed -n 's/^| .* | .*[^0-9]\([0-9]*\) | `\(SERIFDOVE_0BA6_[A-Z]*\)` |$/_Static_as
 sed -i '1i #include "serifdove.h"' "$work/limits.c"
 $cc -std=c11 $warnings -Iinclude -fsyntax-only "$work/limits.c" || wrong "docs/OPERATING.md has other limits than include/serifdove.h"
 echo "gateway: docs/OPERATING.md on the series"
+
+# ---- analog amplifiers, worked out by hand: 10 · AI1, 10 times that less 10, and -10 · AM1 + 4, which AM1 becomes
+cat >"$work/gauge.csv" <<'END'
+16,19,0,7,1,1000,0,1,litres
+16,19,0,9,1,1000,-10,1,fine
+16,19,0,8,1,-1000,4,1,swing
+48,3,1,9,1
+48,3,2,9,2
+48,4,1,9,3
+END
+make_circuit "$work/gauge.csv" "$work/gauge"
+cat >"$work/gauge.script" <<'END'
+set AI1 300
+scan 0
+set AI1 1000
+latch 0
+run 2
+look
+run
+publish
+scan 0 3
+look 3
+scan 0
+look 3
+END
+cat >"$work/expected" <<'END'
+circuit: gauge, 105 bytes, 3 blocks, 3 rows; cold start
+set: AI1 300
+scan 1 of 1: e 0 (0.00 s), 1 turn; AQ1 3000, AQ2 29990; changed: AQ1 0 -> 3000, AQ2 0 -> 29990
+set: AI1 1000
+latch: e 0 (0.00 s); AI1 1000
+run: 2 blocks worked out, 1 to go
+phase    in a scan, 2 of 3 blocks done, e 0 (0.00 s)
+inputs   AI1 1000 (as latched)
+M        all 0 (change at publish)
+AM       AM1 4 (change at publish)
+outputs  AQ1 3000, AQ2 29990 (as published)
+block  label             kind                  inputs       output
+    1  litres            analog amplifier      Ax AI1 1000   10000  A 10.00, B 0
+    2  fine              analog amplifier      Ax B1 10000   32767  A 10.00, B -10; at the upper end
+====>  the scan stands here, before block 3: 2 done, 1 to go, which show their words from before this scan
+    3  swing             analog amplifier      Ax AM1 4          4  A -10.00, B 4
+run: 1 block worked out, 0 to go
+publish: AQ1 10000, AQ2 32767; changed: AQ1 3000 -> 10000, AQ2 29990 -> 32767
+scan 3 of 3: e 0 (0.00 s), 1 turn; AQ1 10000, AQ2 32767; nothing changed
+phase    waiting
+inputs   AI1 1000 (as latched)
+M        all 0 (for the next scan; the blocks saw those before)
+AM       AM1 32767 (for the next scan; the blocks saw those before)
+outputs  AQ1 10000, AQ2 32767 (as published)
+block  label             kind                  inputs        output
+    3  swing             analog amplifier      Ax AM1 32767   32767  A -10.00, B 4; at the upper end
+scan 1 of 1: e 0 (0.00 s), 1 turn; AQ1 10000, AQ2 32767; nothing changed
+phase    waiting
+inputs   AI1 1000 (as latched)
+M        all 0 (for the next scan; the blocks saw those before)
+AM       AM1 -32768 (for the next scan; the blocks saw those before)
+outputs  AQ1 10000, AQ2 32767 (as published)
+block  label             kind                  inputs         output
+    3  swing             analog amplifier      Ax AM1 -32768  -32768  A -10.00, B 4; at the lower end
+END
+printf '' >"$work/complaints"
+says 0 gauge --script gauge.script </dev/null
 
 # ---- up/down counters and stairway switches, worked out by hand: what look tells of their words
 cat >"$work/tower.csv" <<'END'

@@ -267,25 +267,31 @@ static void sweep_connector(const char *name, size_t field, size_t at, bool ever
     }
 }
 
-/* Block 3 of each kind, behind an AND and a multiplexer; every class in those that have one digital and two analog inputs. */
+/* A digital block, and each that is analog. */
+static void add_one_of_each_sort(void) {
+    add_plain_block(&made, 1);
+    add_plain_block(&made, MULTIPLEXER);
+    add_plain_block(&made, AMPLIFIER);
+}
+
+/* Block 4 of each kind, behind an AND, a multiplexer and an amplifier; every class in those that have one digital and two analog
+   inputs. */
 static void sweep_connectors_of_blocks(void) {
     for (unsigned kind = 1; kind <= KINDS; kind++)
         for (unsigned i = 0; i < inputs_of(kind); i++) {
-            begin_circuit(&made, 3);
-            add_plain_block(&made, 1);
-            add_plain_block(&made, 15);
+            begin_circuit(&made, 4);
+            add_one_of_each_sort();
             add_plain_block(&made, kind);
             end_circuit(&made);
-            sweep_connector("connector of a block", made.block[3], made.block[3] + input_at(i), kind == 8 || kind == 14);
+            sweep_connector("connector of a block", made.block[4], made.block[4] + input_at(i), kind == 8 || kind == COMPARATOR);
         }
 }
 
 /* Rows of Q, M, AQ, AM and of an unknown class. */
 static void sweep_connectors_of_rows(void) {
     for (unsigned class = 1; class <= 5; class++) {
-        begin_circuit(&made, 2);
-        add_plain_block(&made, 1);
-        add_plain_block(&made, 15);
+        begin_circuit(&made, 3);
+        add_one_of_each_sort();
         const size_t row = made.length;
         add_row(&made, class, 1, 0, 0);
         end_circuit(&made);

@@ -2,7 +2,7 @@
 
 /* ---- what is sound */
 
-static const word_range bit = {0, 1}, sixteen_bits = {-32768, 32767}, analog_input = {0, 1000}, no_use = {0, 0};
+static const word_range bit = {0, 1}, value = {LEAST_VALUE, GREATEST_VALUE}, analog_input = {0, 1000}, no_use = {0, 0};
 
 static word_range remembered_range(unsigned kind) {
     if (kind == STAIRWAY)
@@ -19,7 +19,7 @@ static word_range number_range(const circuit *c, unsigned number) {
 
 static word_range block_range(const circuit *c, unsigned number, unsigned word) {
     if (word == 0)
-        return c->kinds[number] == 15 ? sixteen_bits : bit;
+        return is_analog(c->kinds[number]) ? value : bit;
     return word == 1 ? remembered_range(c->kinds[number]) : number_range(c, number);
 }
 
@@ -40,7 +40,7 @@ word_range range_at(const circuit *c, size_t place, bool in_scan) {
     if (place < SERIFDOVE_AM(1))
         return bit;
     if (place < SERIFDOVE_BLOCK_OUTPUT(1))
-        return sixteen_bits;
+        return value;
     const unsigned behind = (unsigned)(place - SERIFDOVE_BLOCK_OUTPUT(1));
     return block_range(c, behind / 3 + 1, behind % 3);
 }

@@ -14,7 +14,7 @@
 #include <stdlib.h>
 #include <string.h>
 
-enum { MOST_TEXT = 700, ROOM = 65536, LONGEST_LINE = 420, KINDS = 18 };
+enum { MOST_TEXT = 700, ROOM = 65536, LONGEST_LINE = 420, KINDS = 19 };
 
 static uint64_t state;
 static unsigned below(unsigned limit) {
@@ -45,6 +45,7 @@ static const char *const good_rows[] = {
     "16,12,1,1,1,1,2,0,0,1,8,1,shift",
     "16,17,1,1,3,1,1,1,2,20,5,1,pallets",
     "16,18,1,1,4,1,60,15,1,1,stairs",
+    "16,19,0,7,2,-1000,10000,1,gain",
     "48,1,1,6,1",
     "048,0003,2,9,5",
     "48,1,1,6,1,,,,",

@@ -168,6 +168,7 @@ void put_hard_labels(circuit *c, chance *with) {
 #define DELAY "16,9,0,1,1,"
 #define COUNTER_ROW "16,17,0,1,1,1,2,1,3,"
 #define STAIRWAY_ROW "16,18,0,1,1,"
+#define AMPLIFIER_ROW "16,19,0,7,1,"
 #define QUOTES_16 "\"\"\"\"\"\"\"\"\"\"\"\"\"\"\"\""
 
 static const struct {
@@ -201,6 +202,8 @@ static const struct {
     {GOOD("a counter with parameters of any size", COUNTER_ROW "-2147483648,1000000,1,pallets\r\n", 41, 1)},
     {GOOD("a stairway switch", STAIRWAY_ROW "0,6,3,2,0,", 33, 1)},
     {GOOD("a stairway switch with times in any order", STAIRWAY_ROW "-1,2,2147483647,6,1,", 36, 1)},
+    {GOOD("an amplifier", AMPLIFIER_ROW "-1000,10000,0,", 25, 1)},
+    {GOOD("an amplifier with all that is allowed nowhere", "16,19,255,134,65535,-2147483648,2147483647,1,", 28, 1)},
     {BAD("a line end alone", "\n", 31, 1)},
     {BAD("CRLF alone", "\r\n", 31, 1)},
     {BAD("CR alone", "\r", 31, 1)},
@@ -242,6 +245,7 @@ static const struct {
     {BAD("kind 20", "16,20,0,1,1,0,", 31, 1)},
     {BAD("kind 255", "16,255,0,1,1,0,", 31, 1)},
     {BAD("kind 274", "16,274,0,1,1,0,6,3,2,0,", 31, 1)},
+    {BAD("kind 275", "16,275,0,7,1,100,0,0,", 31, 1)},
     {BAD("kind 264", "16,264,0,1,1,0,", 31, 1)},
     {BAD("an empty kind", "16,,0,1,1,0,", 31, 1)},
     {BAD("minus before a kind", "16,-8,0,1,1,0,", 31, 1)},
@@ -255,6 +259,9 @@ static const struct {
     {BAD("a stairway switch with two times", STAIRWAY_ROW "0,6,3,0,", 31, 1)},
     {BAD("a stairway switch with four times", STAIRWAY_ROW "0,6,3,2,1,0,", 31, 1)},
     {BAD("a stairway switch with two inputs", "16,18,0,1,1,0,0,0,6,3,2,0,", 31, 1)},
+    {BAD("an amplifier without B", AMPLIFIER_ROW "100,0,", 31, 1)},
+    {BAD("an amplifier with On and Off", AMPLIFIER_ROW "100,0,5,5,0,", 31, 1)},
+    {BAD("an amplifier with two inputs", "16,19,0,7,1,7,2,100,0,0,", 31, 1)},
     {BAD("an empty number", "48,1,1,6,", 32, 1)},
     {BAD("option 256", "16,8,256,1,1,0,", 32, 1)},
     {BAD("class 256", "16,8,0,256,1,0,", 32, 1)},
@@ -270,6 +277,8 @@ static const struct {
     {BAD("Off of a counter too large", COUNTER_ROW "5,2147483648,0,", 32, 1)},
     {BAD("T!L too small", STAIRWAY_ROW "0,6,3,-2147483649,0,", 32, 1)},
     {BAD("T!L empty", STAIRWAY_ROW "0,6,3,,0,", 32, 1)},
+    {BAD("A of an amplifier too small", AMPLIFIER_ROW "-2147483649,0,0,", 32, 1)},
+    {BAD("B of an amplifier empty", AMPLIFIER_ROW "100,,0,", 32, 1)},
     {BAD("a parameter too small", DELAY "-2147483649,0,0,", 32, 1)},
     {BAD("minus alone", DELAY "-,0,0,", 32, 1)},
     {BAD("minus twice", DELAY "--1,0,0,", 32, 1)},

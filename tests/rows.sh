@@ -53,7 +53,7 @@ quotes = label(b'"' * 16)
 widest = [block(15, [(0x86, 1)] * 3, [-32768] * 4)] * 396 + [block(12, [(0x86, 1)] * 3, [k, 8], 1) for k in range(1, 4)]
 rows = [row(cls, number, (0x86, 399) if cls <= 2 else (9, 397)) for cls, number in destinations]
 write("greatest.circuit", header(400) + b"".join(each + quotes for each in [not_of((1, 24))] + widest) + b"".join(rows) + end)
-write("all.circuit", header(18) + b"".join(each + label(b"") for each in one_of_each) + row(1, 20, (6, 18)) + row(3, 8, (9, 15)) + end)
+write("all.circuit", header(19) + b"".join(each + label(b"") for each in one_of_each) + row(1, 20, (6, 18)) + row(3, 8, (9, 15)) + row(4, 64, (9, 19)) + end)
 END
 cat >"$work/all.csv" <<'END'
 16,1,0,1,1,0,0,0,0,0,0,1,
@@ -74,15 +74,17 @@ cat >"$work/all.csv" <<'END'
 16,16,0,9,15,100,0,20000,20000,1,
 16,17,1,6,16,129,2,0,0,999999,0,1,
 16,18,1,134,17,1,5999,5999,0,1,
+16,19,0,9,15,-1000,10000,1,
 48,1,20,6,18
 48,3,8,9,15
+48,4,64,9,19
 END
 printf '' >"$work/complaints"
-echo "made: $(wc -c <"$work/all.circuit") bytes, 18 blocks, 2 output rows" >"$work/expected"
+echo "made: $(wc -c <"$work/all.circuit") bytes, 19 blocks, 3 output rows" >"$work/expected"
 says 0 all.csv made
 cmp "$work/all.circuit" "$work/made" || wrong "the kinds have other bytes"
 sed 's/$/\r/' "$work/all.csv" >"$work/all.crlf"
-echo "back.CSV: $(wc -c <"$work/all.crlf") bytes, 20 rows" >"$work/expected"
+echo "back.CSV: $(wc -c <"$work/all.crlf") bytes, 22 rows" >"$work/expected"
 says 0 --back made back.CSV
 cmp "$work/all.crlf" "$work/back.CSV" || wrong "the kinds are written otherwise"
 
@@ -234,9 +236,9 @@ tells 31 1 'What to do: take the row away, if no block stood there; blocks are n
 tells 31 1 'What to do: take the row away, if it holds headings or a remark.' 'tag,kind\n'
 tells 31 1 'What to do: compare the row with the columns of its kind (docs/ROWS.md).' '17,1,1,3,0\n'
 tells 31 1 'Cell 1, tag: `-16` is no tag' '-16,8,0,0,0,0,\n'
-tells 31 1 'The row: it ends behind its tag; expected is a kind, 1 to 18, and the cells of that kind.' '16\n'
+tells 31 1 'The row: it ends behind its tag; expected is a kind, 1 to 19, and the cells of that kind.' '16\n'
 for kind in 0 20 255 256 -1 AND ''; do
-    tells 31 1 "Cell 2, kind: \`$kind\` is no kind; expected is 1 to 18." "16,$kind,0\n"
+    tells 31 1 "Cell 2, kind: \`$kind\` is no kind; expected is 1 to 19." "16,$kind,0\n"
 done
 tells 31 1 'The row: it has 1 cell; expected are 5: 48, destination class' '48\n'
 tells 31 1 'The row: it has 4 cells; expected are 5: 48, destination class, destination number, connector class, connector number.' '48,1,1,6'
@@ -298,9 +300,12 @@ digital='class 0 to 4 or 6, or inverted 129 to 132 or 134, and a number that thi
 analog='class 7, 8 or 9, and a number that this class has (docs/ROWS.md, Connectors).'
 tells 5 1 'Cell 3, option: `1`; expected is 0, or for kinds 9 to 12, 17 and 18 also 1: retentive.' '16,8,1,9,9,0,\n'
 tells 5 1 'Cell 3, option: `2`; expected is 0' '16,9,2,1,1,0,1,0,\n'
+tells 5 1 'Cell 3, option: `1`; expected is 0' '16,19,1,7,1,100,0,0,\n'
 tells 6 1 'Cells 6 and 7, input 2 class and input 2 number: `7,1`; expected is '"$digital" '16,1,0,1,1,7,1,5,0,0,0,0,\n'
 tells 6 1 'Cells 8 and 9, input 3 class and input 3 number: `"6","5"`; expected is '"$digital" '16,1,0,6,1,1,2,"6","5",0,0,0,\n'
 tells 6 1 'Cells 6 and 7, Ay class and Ay number: `1,1`; expected is '"$analog" '16,14,0,7,1,1,1,9999,0,5,5,0,\n'
+tells 6 1 'Cells 4 and 5, Ax class and Ax number: `3,0`; expected is '"$analog" '16,19,0,3,0,1001,0,0,\n'
+tells 6 2 'Cells 4 and 5, input 1 class and input 1 number: `6,1`; expected is '"$digital" '16,19,0,7,1,100,0,0,\n16,8,0,6,1,0,\n'
 tells 6 1 'Cells 4 and 5, connector class and connector number: `0,0`; expected is class 1 to 4 or 6, or inverted 129' '48,2,1,0,0\n'
 tells 6 1 'Cells 4 and 5, connector class and connector number: `3,"0"`; expected is '"$analog" '48,3,1,3,"0"'
 tells 6 1 'Cells 4 and 5, connector class and connector number: `5,0`; expected is a connector that docs/ROWS.md has, behind a destination that it has.' '48,5,1,5,0\n'
@@ -352,8 +357,10 @@ done <<'END'
 7|T|0|9999|0 to 9999 with base 0, else 0 to 5999|16,18,0,1,1,0,@,0,0,0,
 7|T|0|5999|0 to 9999 with base 0, else 0 to 5999|16,18,0,1,1,1,@,0,0,0,
 7|T|0|5999|0 to 9999 with base 0, else 0 to 5999|16,18,0,1,1,2,@,0,0,0,
+6|A|-1000|1000|-1000 to 1000|16,19,0,7,1,@,0,0,
+7|B|-10000|10000|-10000 to 10000|16,19,0,7,1,0,@,0,
 END
-[ $ranges -eq 19 ] || wrong "$ranges ranges are tried, not 19"
+[ $ranges -eq 21 ] || wrong "$ranges ranges are tried, not 21"
 for circuit in 5:1:'16,8,1,0,0,0,' 6:1:'48,1,1,6,1' 8:1:'16,9,0,1,1,0,10000,0,' 9:2:'48,1,1,3,0\n48,1,1,3,0' 10:2:'16,12,0,0,0,0,0,0,0,1,1,0,\n16,12,0,0,0,0,0,0,0,1,1,1,x'; do
     IFS=: read -r number row text <<<"$circuit"
     tells "$number" "$row" 'the circuit of the rows in bad.csv is refused.' "$text\\n"
@@ -499,6 +506,7 @@ offers() {
 }
 kinds=0
 all_kinds=
+rows_of=()
 while IFS='|' read -r _ kind name cells columns _; do
     kind=${kind// /} name=$(sed 's/^ *//; s/ *$//' <<<"$name") columns=$(sed 's/^ *//; s/ *$//' <<<"$columns")
     text=$(sed -E 's/A[xy] class/7/g; s/[A-Za-z0-9 ]+ class/0/g; s/A[xy] number/1/g; s/[A-Za-z0-9 ]+ number/0/g; s/option|mark/0/g; s/label//; s/base|T!L|T!|T|index|bit|On|Off|Delta|V[1-4]/1/g; s/\b[AB]\b/1/g; s/, */,/g' <<<"$columns")
@@ -511,17 +519,18 @@ while IFS='|' read -r _ kind name cells columns _; do
         grep -qF "expected are $((cells)): $columns." "$work/err" || wrong "$page: the columns of $name are told otherwise: $(cat "$work/err")"
     done
     kinds=$((kinds + 1)) all_kinds+="$text\\n"
+    [ -z "$kind" ] || rows_of[kind]=$text
 done < <(sed -n '/^| kind | name /,/^$/p' $page | sed 1,2d | grep '^|')
-[ $kinds -eq 19 ] || wrong "$page has $kinds kinds and rows, not 19"
+[ $kinds -eq 20 ] || wrong "$page has $kinds kinds and rows, not 20"
 offers 0 "$all_kinds"
-grep -q '18 blocks, 1 output row$' "$work/out" || wrong "$page: all kinds at once: $(cat "$work/out")"
+grep -q '19 blocks, 1 output row$' "$work/out" || wrong "$page: all kinds at once: $(cat "$work/out")"
 examples=0
 while IFS='|' read -r _ row _; do
     row=${row# \`} row=${row%\` }
     offers 0 "$row\\n"
     examples=$((examples + 1))
 done < <(sed -n '/^| example row | /,/^$/p' $page | sed 1,2d | grep '^|')
-[ $examples -eq 2 ] || wrong "$page has $examples example rows, not 2"
+[ $examples -eq 3 ] || wrong "$page has $examples example rows, not 3"
 
 # connectors: the ends of each range are taken, inverted too where that is allowed; the numbers beside them are refused
 classes=0
@@ -548,6 +557,17 @@ while IFS='|' read -r _ class inverted numbers what; do
     classes=$((classes + 1))
 done < <(sed -n '/^| class | inverted /,/^$/p' $page | sed 1,2d | grep '^|')
 [ $classes -eq 9 ] || wrong "$page has $classes classes of connectors, not 9"
+# which kinds are digital blocks and which are analog ones: each is named by its class, and not by the other
+analog_kinds=" $(sed -n 's/^| 9 | .* analog block: kind \(.*\) |$/\1/p' $page) "
+grep -q "^| 6 | .* digital block: any kind but${analog_kinds/ or / and }|\$" $page || wrong "$page: the digital blocks are not those that are not analog"
+for kind in "${!rows_of[@]}"; do
+    case $analog_kinds in
+    *" $kind "*) of_q=6 of_aq=0 ;;
+    *) of_q=0 of_aq=6 ;;
+    esac
+    offers $of_q "${rows_of[kind]}\\n48,1,1,6,1\\n" 2
+    offers $of_aq "${rows_of[kind]}\\n48,3,1,9,1\\n" 2
+done
 classes=0
 while IFS='|' read -r _ class numbers _ takes _; do
     read -r least _ greatest <<<"$numbers"

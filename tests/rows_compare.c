@@ -345,7 +345,7 @@ static void compare_odd_rows(chance *with) {
 static void compare_random_bytes(chance *with) {
     static const uint8_t common[] = {'"', '"', '"', ',', ',', ',', '\r', '\n', '\n', '0', '1', '1', '4', '6', '8', '-', 'a', ' '};
     static const char *const beginnings[] = {
-        "", "", "16,8,0,1,1,1,", "16,8,0,1,1,0,", "16,9,0,1,1,", "16,17,0,", "16,18,0,1,1,", "48,", "48,1,1,6,1\n", "16,8,0,1,1,1,\""};
+        "", "", "16,8,0,1,1,1,", "16,8,0,1,1,0,", "16,9,0,1,1,", "16,17,0,", "16,18,0,1,1,", "16,19,0,7,1,", "48,", "48,1,1,6,1\n", "16,8,0,1,1,1,\""};
     const char *beginning = beginnings[below(with, sizeof beginnings / sizeof *beginnings)];
     const size_t begun = strlen(beginning), length = begun + below(with, 33);
     uint8_t bytes[64];

@@ -40,8 +40,10 @@ KINDS = {kind: ("dddd", (), False) for kind in range(1, 7)} | {
     16: ("a", (GAIN, OFFSET, THRESHOLD, THRESHOLD), False),
     17: ("ddd", (COUNT, COUNT), True),
     18: ("d", (BASE, TIME, TIME, TIME), True),
+    19: ("a", (GAIN, OFFSET), False),
 }
-REGISTER, MULTIPLEXER, STAIRWAY = 12, 15, 18
+REGISTER, STAIRWAY = 12, 18
+ANALOG_BLOCKS = {15, 19}
 UNUSED = (0, 0)
 DESTINATIONS = [(cls, k) for cls, greatest in ((1, 20), (2, 64), (3, 8), (4, 64)) for k in range(1, greatest + 1)]
 MOST_BLOCKS = 400
@@ -56,7 +58,7 @@ HARD = b',,"""\r\r\n\n -01;\t\''
 
 def random_connector(chance, sort, blocks):
     """Class and number of what an input of this sort, or such a row, may take; blocks: the kinds so far."""
-    named = [k for k, kind in enumerate(blocks, 1) if (kind == MULTIPLEXER) == (sort == "a")]
+    named = [k for k, kind in enumerate(blocks, 1) if (kind in ANALOG_BLOCKS) == (sort == "a")]
     if named and chance.random() < 0.4:
         cls, number = (9 if sort == "a" else 6), chance.choice(named)
     elif sort == "a":

@@ -38,7 +38,7 @@ def row(cls, number, source):
 
 
 end = field(0x7F, b"")
-none, i1, i2, ai1, m8 = (0, 0), (1, 1), (1, 2), (7, 1), (4, 8)
+none, i1, i2, ai1, m8, am1, hi = (0, 0), (1, 1), (1, 2), (7, 1), (4, 8), (8, 1), (3, 0)
 
 
 def and_of(*inputs):  # 17 bytes
@@ -77,6 +77,18 @@ def stairway(base, t, warning, dark, trg=i1):  # 24 bytes
     return block(18, [trg], [base, t, warning, dark])
 
 
+def amplifier(source, a, b, options=0):  # 16 bytes
+    return block(19, [source], [a, b], options)
+
+
+def comparator(x, y, parameters):  # 27 bytes
+    return block(14, [x, y], parameters)
+
+
+def differential(source, parameters):  # 24 bytes
+    return block(16, [source], parameters)
+
+
 document_01 = header(1) + and_of(i1, i2) + row(1, 1, (6, 1)) + end
 one_of_each = [
     and_of(i1), block(2, [i1, none, none, none]), block(3, [(0x81, 24), none, none, none]), block(4, [(4, 64), none, none, none]),
@@ -84,8 +96,11 @@ one_of_each = [
     block(9, [(6, 8)], [0, 9999], 1), block(10, [(6, 9), none], [1, 5999], 1), block(11, [(6, 10), none], (), 1),
     block(12, [(6, 11), i1, none], [4, 8], 1), block(13, [(7, 8)], [-1000, 10000, 20000, -20000]), block(14, [(8, 64), (7, 1)], [1000, -10000, -20000, 20000]),
     block(15, [(6, 14), none, (2, 0)], [-32768, 32767, 0, -1]), block(16, [(9, 15)], [100, 0, 20000, 20000]),
-    block(17, [(6, 16), (0x81, 2), none], [999999, 0], 1), block(18, [(0x86, 17)], [1, 5999, 5999, 0], 1),
+    block(17, [(6, 16), (0x81, 2), none], [999999, 0], 1), block(18, [(0x86, 17)], [1, 5999, 5999, 0], 1), amplifier((9, 15), -1000, 10000),
 ]
+# AM1 from block 1, which makes of AM1 ten times as much and 5 more: 5, 55, 555, 5555, then 32767 in every scan
+growing, am1_of_it = amplifier(am1, 1000, 5), row(4, 1, (9, 1))
+fixed_3000 = block(15, [hi, none, none], [3000, 0, 0, 0])
 destinations = [(1, k) for k in range(1, 21)] + [(2, k) for k in range(1, 65)] + [(3, k) for k in range(1, 9)] + [(4, k) for k in range(1, 65)]
 all_rows = b"".join(row(c, k, (3, 0) if c <= 2 else (8, 1)) for c, k in destinations)
 most_of_0ba6 = {1: 16, 2: 27, 3: 2, 4: 6}
@@ -104,7 +119,7 @@ cases = [
     ("n_401", header(401) + end, 4, 0, 0, 0),
     # accepted
     ("no_blocks", header(0) + end, 0, 0, 0, 0),
-    ("all_kinds", header(18) + b"".join(one_of_each) + row(1, 20, (6, 16)) + row(3, 8, (9, 15)) + row(1, 18, (6, 18)) + end, 0, 0, 18, 3, 6, 57),
+    ("all_kinds", header(19) + b"".join(one_of_each) + row(1, 20, (6, 16)) + row(3, 8, (9, 15)) + row(1, 18, (6, 18)) + row(4, 64, (9, 19)) + end, 0, 0, 19, 4, 6, 57),
     ("labels", header(2) + and_of(i1) + label(b"") + not_of((6, 1)) + label(bytes(range(16))) + end, 0, 0, 2, 0),
     ("all_destinations", header(0) + all_rows + end, 0, 0, 0, 156, 9, 134),
     ("four_registers", header(4) + register(3, 1) + register(1, 8) + register(4, 1) + register(2, 1) + end, 0, 0, 4, 0),
@@ -116,6 +131,16 @@ cases = [
     ("stairway_dark_at_last", header(1) + stairway(2, 5999, 13, 12, m8) + row(1, 1, (6, 1)) + end, 0, 0, 1, 1),  # M8 is 1 in the first scan
     ("stairway_ends_at_last", header(1) + stairway(2, 5996, 5996, 1, m8) + row(1, 1, (6, 1)) + end, 0, 0, 1, 1),
     ("stairway_all_the_same", header(1) + stairway(0, 9999, 9999, 9999) + end, 0, 0, 1, 0),
+    ("amplifier_chain", header(3) + amplifier(ai1, 300, 7) + amplifier((9, 1), 1000, 0) + amplifier((9, 2), -200, 0) + row(3, 1, (9, 1)) + row(3, 2, (9, 2)) + row(3, 8, (9, 3)) + end, 0, 0, 3, 3, 9, 70),
+    ("amplifier_counts", header(1) + amplifier(am1, 100, 1) + am1_of_it + row(3, 1, (9, 1)) + end, 0, 0, 1, 2),
+    ("amplifier_falls", header(1) + amplifier(am1, 100, -10000) + am1_of_it + row(3, 1, (9, 1)) + end, 0, 0, 1, 2),
+    ("amplifier_swings", header(1) + amplifier(am1, -1000, 4) + am1_of_it + row(3, 1, (9, 1)) + end, 0, 0, 1, 2),
+    ("amplifier_ends", header(2) + amplifier((8, 6), -1000, 10000) + amplifier((7, 8), 1000, -10000) + end, 0, 0, 2, 0),
+    ("amplifier_named", header(5) + growing + trigger((9, 1)) + comparator((9, 1), (9, 1), [0] * 4) + differential((9, 1), [0] * 4) + amplifier((9, 1), 0, 0) + row(3, 1, (9, 5)) + row(4, 6, (9, 1)) + end, 0, 0, 5, 2),
+    ("differential_held_above", header(2) + growing + differential((9, 1), [1000, 0, 20000, 15000]) + am1_of_it + row(1, 1, (6, 2)) + end, 0, 0, 2, 2),
+    ("differential_held_below", header(2) + growing + differential((9, 1), [-1000, 0, -20000, -15000]) + am1_of_it + row(1, 1, (6, 2)) + end, 0, 0, 2, 2),
+    ("comparator_held_above", header(3) + growing + fixed_3000 + comparator((9, 1), (9, 2), [1000, 0, 2767, 2768]) + am1_of_it + row(1, 1, (6, 3)) + end, 0, 0, 3, 2),
+    ("comparator_held_below", header(3) + growing + fixed_3000 + comparator((9, 1), (9, 2), [-1000, 0, -2768, -2767]) + am1_of_it + row(1, 1, (6, 3)) + end, 0, 0, 3, 2),
     ("flags_exchange", header(0) + row(2, 1, (4, 2)) + row(2, 2, (4, 1)) + end, 0, 0, 0, 2),
     # 1
     ("one_byte", b"\x01", 1, 0, 0, 0),
@@ -134,6 +159,9 @@ cases = [
     ("and_of_three_inputs", header(1) + block(1, [i1, i1, i1]) + end, 2, 6, 0, 0),
     ("counter_of_one_byte", header(1) + field(0x10, b"\x11") + end, 2, 6, 0, 0),
     ("stairway_of_two_times", header(1) + block(18, [i1], [0, 6, 3]) + end, 2, 6, 0, 0),
+    ("amplifier_of_one_byte", header(1) + field(0x10, b"\x13") + end, 2, 6, 0, 0),
+    ("amplifier_without_b", header(1) + block(19, [ai1], [100]) + end, 2, 6, 0, 0),
+    ("amplifier_with_on_and_off", header(1) + block(19, [ai1], [100, 0, 5, 5]) + end, 2, 6, 0, 0),
     ("block_behind_row", header(0) + row(1, 1, i1) + not_of(i1) + end, 2, 14, 0, 0),
     ("label_behind_header", header(1) + label(b"A") + not_of(i1) + end, 2, 6, 0, 0),
     ("label_twice", header(1) + not_of(i1) + label(b"") + label(b"A") + end, 2, 17, 0, 0),
@@ -154,6 +182,7 @@ cases = [
     ("kind_255", header(1) + block(255, [i1]) + end, 5, 6, 0, 0),
     ("retentive_not", header(1) + block(8, [(5, 0)], (), 1) + end, 5, 6, 0, 0),
     ("counter_option_bit_1", header(1) + counter(0, 0, 2) + end, 5, 6, 0, 0),
+    ("amplifier_retentive", header(1) + amplifier(ai1, 100, 0, 1) + end, 5, 6, 0, 0),
     ("option_bit_1", header(1) + block(11, [i1, none], (), 2) + end, 5, 6, 0, 0),
     # 6
     ("class_5", header(1) + not_of((5, 1)) + end, 6, 6, 0, 0),
@@ -162,6 +191,12 @@ cases = [
     ("unused_analog_input", header(1) + trigger(none) + end, 6, 6, 0, 0),
     ("multiplexer_as_digital", header(2) + multiplexer() + not_of((6, 1)) + end, 6, 36, 0, 0),
     ("counter_as_analog", header(2) + counter(0, 0) + trigger((9, 1)) + end, 6, 28, 0, 0),
+    ("amplifier_as_digital", header(2) + amplifier(ai1, 100, 0) + not_of((6, 1)) + end, 6, 22, 0, 0),
+    ("amplifier_of_a_trigger", header(2) + trigger(ai1) + amplifier((9, 1), 100, 0) + end, 6, 30, 0, 0),
+    ("amplifier_unused_input", header(1) + amplifier(none, 100, 0) + end, 6, 6, 0, 0),
+    ("row_q_from_amplifier", header(1) + amplifier(ai1, 100, 0) + row(1, 1, (6, 1)) + end, 6, 22, 0, 0),
+    ("row_m_from_amplifier_as_analog", header(1) + amplifier(ai1, 100, 0) + row(2, 1, (9, 1)) + end, 6, 22, 0, 0),
+    ("row_aq_from_amplifier_as_digital", header(1) + amplifier(ai1, 100, 0) + row(3, 1, (6, 1)) + end, 6, 22, 0, 0),
     ("later_then_class_5", header(2) + and_of((6, 2), (5, 0)) + not_of(i1) + end, 6, 6, 0, 0),
     ("later_than_n", header(2) + not_of((6, 3)) + not_of(i1) + end, 6, 6, 0, 0),
     ("row_unused", header(0) + row(1, 1, none) + end, 6, 6, 0, 0),
@@ -171,6 +206,7 @@ cases = [
     ("later_block", header(2) + not_of((6, 2)) + not_of(i1) + end, 7, 6, 0, 0),
     ("later_block_of_wrong_sort", header(2) + not_of((6, 2)) + multiplexer() + end, 7, 6, 0, 0),
     ("stairway_names_itself", header(2) + not_of(i1) + stairway(0, 0, 1, 0, (6, 2)) + end, 7, 14, 0, 0),
+    ("amplifier_names_itself", header(1) + amplifier((9, 1), 1001, 0) + end, 7, 6, 0, 0),
     ("trigger_names_itself", header(2) + not_of(i1) + trigger((9, 2)) + end, 7, 14, 0, 0),
     # 8
     ("base_257", header(1) + on_delay(257, 0) + end, 8, 6, 0, 0),
@@ -184,6 +220,10 @@ cases = [
     ("stairway_dark_above_warning", header(1) + stairway(0, 6, 3, 4) + end, 8, 6, 0, 0),
     ("stairway_below_0_in_order", header(1) + stairway(0, 5, -1, -1) + end, 8, 6, 0, 0),
     ("stairway_minutes_6000", header(1) + stairway(1, 6000, 6000, 6000) + end, 8, 6, 0, 0),
+    ("amplifier_gain_1001", header(1) + amplifier(ai1, 1001, 0) + end, 8, 6, 0, 0),
+    ("amplifier_gain_minus_1001", header(1) + amplifier(ai1, -1001, 0) + end, 8, 6, 0, 0),
+    ("amplifier_offset_10001", header(1) + amplifier(ai1, 0, 10001) + end, 8, 6, 0, 0),
+    ("amplifier_offset_minus_10001", header(1) + amplifier(ai1, 0, -10001) + end, 8, 6, 0, 0),
     ("index_twice_bit_9", header(2) + register(1, 1) + register(1, 9) + end, 8, 28, 0, 0),
     # 9
     ("destination_class_5", header(2) + not_of(i1) + multiplexer() + row(5, 1, (6, 2)) + end, 9, 44, 0, 0),
@@ -215,7 +255,7 @@ cases = [
     ("series_m28_at_a_block", header(2) + not_of((4, 27)) + and_of(i1, i2, (6, 1), (4, 28)) + end, 0, 0, 2, 0, 6, 14),
     ("series_m28_at_a_row", header(0) + row(1, 1, (4, 27)) + row(2, 1, (0x84, 28)) + end, 0, 0, 0, 2, 6, 14),
     ("series_am7", header(0) + row(4, 7, ai1) + end, 0, 0, 0, 1, 9, 6),
-    ("series_am7_at_a_block", header(1) + block(14, [(8, 6), (8, 7)], [100, 0, 0, 0]) + end, 0, 0, 1, 0, 6, 6),
+    ("series_am7_at_a_block", header(1) + comparator((8, 6), (8, 7), [100, 0, 0, 0]) + end, 0, 0, 1, 0, 6, 6),
     ("series_am7_at_a_row", header(0) + row(4, 6, (8, 7)) + end, 0, 0, 0, 1, 6, 6),
     # two things of a field do not fit: the lowest number
     ("series_q17_from_m28", header(0) + row(1, 17, (4, 28)) + end, 0, 0, 0, 1, 6, 6),
@@ -231,6 +271,10 @@ nine_scans = {
     "counter_5": "0 0 0 0 0 0 0 0 1",  # the fifth rise; 4 give 0
     "stairway_6_3_2": "1 1 1 1 1 0 0 1 0",
     "off_delay_held": "1 0 0 0 0 0 0 0 0",  # R goes in the third, the fifth, .. : no rise
+    "differential_held_above": "0 0 0 1 1 1 1 1 1",  # 50, 550, 5550, then 32767 for 55550 and more, which is below Off 35000
+    "differential_held_below": "1 1 1 1 1 1 1 1 1",  # -50, -550, -5550, then -32768 for -55550 and less, which is above Off -35000
+    "comparator_held_above": "0 0 0 1 1 1 1 1 1",  # in the fourth 32767 less 30000
+    "comparator_held_below": "0 0 0 1 1 1 1 1 1",  # in the fourth -32768 less -30000
     "series_m27": "1 0 1 0 1 0 1 0 1",  # the opposite of M27, which is the opposite of itself a scan before
 }
 

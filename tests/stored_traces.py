@@ -4,7 +4,7 @@ stored_traces.py: prints it."""
 import sys
 
 sys.dont_write_bytecode = True
-from stored_circuits import ai1, and_of, block, document_01, end, header, i1, i2, m8, none, on_delay, row, stairway, trigger
+from stored_circuits import ai1, am1, amplifier, and_of, block, comparator, differential, document_01, end, header, i1, i2, m8, none, on_delay, row, stairway, trigger
 
 PHASE, DONE, MARK, E = range(4)
 Q, M, AQ, AM = 1, 2, 3, 4  # destination classes
@@ -353,6 +353,99 @@ def thresholds():
     trace.end()
 
 
+def held_values():
+    """AM1 and AM2 are lent; no row writes them, so publish makes them 0."""
+    am2, q1 = (8, 2), {(Q, 1): 1}
+    trace = Trace("differential trigger, On 20000, Off 35000, gain 10: all that is above 32767 is held there, below Off", header(1) + differential(am1, [1000, 0, 20000, 15000]) + row(Q, 1, block1) + end, 1)
+    for am, output in [(1999, 0), (2000, 1), (3276, 1), (3277, 1), (3501, 1), (32767, 1), (-32768, 0)]:
+        trace.put({am_word(1): am})
+        trace.scan(own(1, output), q1 if output else {})
+    trace.end()
+    trace = Trace("differential trigger, On 20000, Off 32767 and 32768: 32767 lies below the second alone", header(2) + differential(am1, [1000, 0, 20000, 12767]) + differential(am1, [1000, 0, 20000, 12768]) + row(Q, 1, block1) + row(Q, 2, (6, 2)) + end, 2)
+    trace.put({am_word(1): 32767})
+    trace.scan(own(1, 0) | own(2, 1), {(Q, 2): 1})
+    trace.put({am_word(1): 3276})
+    trace.scan(own(1, 1) | own(2, 1), {(Q, 1): 1, (Q, 2): 1})
+    trace.end()
+    trace = Trace("differential trigger, Off -32768 and -32769 below On: -32768 is at the first, and above the second", header(2) + differential(am1, [1000, 0, -20000, -12768]) + differential(am1, [1000, 0, -20000, -12769]) + row(Q, 1, block1) + row(Q, 2, (6, 2)) + end, 2)
+    trace.put({am_word(1): -32768} | own(1, 1) | own(2, 1))
+    trace.scan(own(1, 0) | own(2, 1), {(Q, 2): 1})
+    trace.end()
+    trace = Trace("differential trigger, held after the offset: 35000 less 10000 is 25000, and no less", header(1) + differential(am1, [1000, -10000, 20000, 5000]) + row(Q, 1, block1) + end, 1)
+    for am, output in [(3499, 1), (3500, 0), (3000, 1)]:
+        trace.put({am_word(1): am})
+        trace.scan(own(1, output), q1 if output else {})
+    trace.end()
+    trace = Trace("comparator at gain 10: 32767 less 30000 is 2767, and -32768 less -30000 is -2768", header(2) + comparator(am1, am2, [1000, 0, 2767, 2768]) + comparator(am1, am2, [1000, 0, -2768, -2767]) + row(Q, 1, block1) + row(Q, 2, (6, 2)) + end, 2)
+    trace.put({am_word(1): 32767, am_word(2): 3000})
+    trace.scan(own(1, 1) | own(2, 0), q1)
+    trace.put({am_word(1): -32768, am_word(2): -3000})
+    trace.scan(own(1, 0) | own(2, 1), {(Q, 2): 1})
+    trace.put({am_word(1): 3000, am_word(2): 32767})
+    trace.scan(own(1, 0) | own(2, 0), {})
+    trace.end()
+    trace = Trace("comparator: B 10000 is cancelled where neither is held, and not where one is", header(1) + comparator(am1, am2, [1000, 10000, 2000, 2001]) + row(Q, 1, block1) + end, 1)
+    trace.put({am_word(1): 2200, am_word(2): 2000})
+    trace.scan(own(1, 1), q1)
+    trace.put({am_word(1): 2400, am_word(2): 2200})
+    trace.scan(own(1, 0), {})
+    trace.end()
+
+
+def amplifiers():
+    """Block 1 reads AM1 and writes it, scan by scan, unless the title tells otherwise."""
+    block9 = (9, 1)
+    for title, a, b, am, outputs in [
+        ("A 1000: ten times as much in each scan, up to 32767", 1000, 0, 5, [50, 500, 5000, 32767, 32767]),
+        ("A -1000: from one end to the other", -1000, 0, 4, [-40, 400, -4000, 32767, -32768, 32767, -32768]),
+        ("A 100, B 10000: up, and held", 100, 10000, 0, [10000, 20000, 30000, 32767, 32767]),
+        ("A 100, B -10000: down, and held", 100, -10000, 0, [-10000, -20000, -30000, -32768, -32768]),
+        ("A -33: the fraction is dropped toward zero", -33, 0, 10, [-3, 0, 0]),
+        ("A 33: the fraction of a value below 0 too", 33, 0, -10, [-3, 0, 0]),
+        ("A 1000, B -10000: held after the offset", 1000, -10000, 3500, [25000, 32767, 32767]),
+        ("A 100, B 1 at the upper end", 100, 1, 32766, [32767, 32767]),
+        ("A 100, B -1 at the lower end", 100, -1, -32767, [-32768, -32768]),
+    ]:
+        trace = Trace("amplifier, " + title, header(1) + amplifier(am1, a, b) + row(AM, 1, block9) + row(AQ, 1, block9) + end, 1)
+        trace.put({am_word(1): am})
+        for output in outputs:
+            trace.scan(own(1, output), {(AM, 1): output, (AQ, 1): output})
+        trace.end()
+    chain = header(4) + amplifier(ai1, 300, 7) + amplifier((9, 1), 1000, 0) + amplifier((9, 2), -200, 0) + amplifier((9, 3), -100, 0)
+    trace = Trace("amplifiers behind one another: each reads this scan's value of the one before it", chain + row(AQ, 1, (9, 4)) + row(AM, 1, (9, 3)) + end, 4)
+    trace.cold()
+    trace.scan(own(1, 3007) | own(2, 30070) | own(3, -32768) | own(4, 32767), {(AQ, 1): 32767, (AM, 1): -32768}, analog={1: 1000})
+    trace.scan(own(1, 10) | own(2, 100) | own(3, -200) | own(4, 200), {(AQ, 1): 200, (AM, 1): -200}, analog={1: 1})
+    trace.warm({})
+    trace.scan(own(1, 7) | own(2, 70) | own(3, -140) | own(4, 140), {(AQ, 1): 140, (AM, 1): -140})
+    trace.end()
+    ring = header(3) + amplifier(am1, 1000, 0) + amplifier((8, 2), -1000, 0) + amplifier((9, 2), 100, 1) + row(AM, 2, block9) + row(AM, 1, (9, 2)) + row(AQ, 8, (9, 3)) + end
+    trace = Trace("two amplifiers, each reading the other's value of the scan before through AM1 and AM2", ring, 3)
+    trace.put({am_word(1): 3, am_word(2): -7})
+    for first, second, third in [(30, 70, 71), (700, -300, -299), (-3000, -7000, -6999), (-32768, 30000, 30001), (32767, 32767, 32767), (32767, -32768, -32767), (-32768, -32768, -32767)]:
+        trace.scan(own(1, first) | own(2, second) | own(3, third), {(AM, 1): second, (AM, 2): first, (AQ, 8): third})
+    trace.end()
+    trace = Trace("amplifier: -32768 and 32767 are sound, one beyond is not; its other words are 0", header(1) + amplifier(ai1, 100, 0) + end, 1)
+    for output in (-32768, 32767):
+        trace.put(own(1, output))
+        trace.scan(own(1, 12), {}, analog={1: 12})
+    for words in (own(1, -32769), own(1, 32768), own(1, 5, 1, 0), own(1, 5, 0, 1)):
+        trace.put(words)
+        trace.latch_refused(21)
+        trace.said("warm", 21)
+    trace.end()
+    for title, circuit, number, place in [
+        ("named as a digital block", header(2) + amplifier(ai1, 100, 0) + block(8, [block1]) + end, 6, 22),
+        ("a row of Q from it, as from an analog block", header(1) + amplifier(ai1, 100, 0) + row(Q, 1, block9) + end, 6, 22),
+        ("retentive", header(1) + amplifier(ai1, 100, 0, 1) + end, 5, 6),
+        ("B 10001", header(1) + amplifier(ai1, 100, 10001) + end, 8, 6),
+    ]:
+        trace = Trace("check: amplifier, " + title, circuit, circuit[5])
+        trace.said("check", number, place=place)
+        trace.said("cold", number, place=place)
+        trace.end()
+
+
 def rows():
     exchange = header(0) + row(M, 1, (4, 2)) + row(M, 2, (4, 1)) + row(AM, 1, (8, 2)) + row(AM, 2, (8, 1)) + row(AQ, 8, ai1) + end
     trace = Trace("M1 from M2 and M2 from M1: the two exchange, and so do AM1 and AM2", exchange, 0)
@@ -406,5 +499,7 @@ bits()
 counts()
 stairs()
 thresholds()
+held_values()
+amplifiers()
 rows()
 turns()

@@ -11,6 +11,8 @@
 static circuit made;
 static lent_words words;
 
+static const call publish = {.name = PUBLISH};
+
 /* ---- kinds: one block in a scan, its inputs and its own words chosen */
 
 /* The made circuit is the one block: its connectors, and its parameters. */
@@ -18,7 +20,7 @@ static void make_block(unsigned kind, const unsigned (*connectors)[2], const int
     begin_circuit(&made, 1);
     add_given_block(&made, kind, 0, connectors, parameters);
     end_circuit(&made);
-    lend_circuit(made.bytes, made.length, made.kinds);
+    lend_circuit(&made);
 }
 
 /* Runs the one block: bit i of `inputs` is I(i + 1), x and y are AM1 and AM2, and where they may stand there analog inputs 1 and 2.
@@ -40,7 +42,7 @@ static void run_block(unsigned inputs, int32_t x, int32_t y, int32_t e, const in
     expect_number("one block", &words, &run_one, 0);
 }
 
-static const unsigned plain[4][2] = {{1, 1}, {1, 2}, {1, 3}, {1, 4}};
+static const unsigned plain[4][2] = {{1, 1}, {1, 2}, {1, 3}, {1, 4}}, from_flags[2][2] = {{8, 1}, {8, 2}};
 
 /* Each input direct, inverted or unused; all inputs, outputs before and remembered words. */
 static void sweep_digital(unsigned kind, const int32_t *parameters) {
@@ -137,40 +139,73 @@ static void sweep_stairway(void) {
 static void sweep_multiplexer(void) {
     static const int32_t values[][4] = {{1, 2, 3, 4}, {-32768, 32767, 0, -1}};
     for (size_t k = 0; k < LENGTH(values); k++)
-        for (int32_t before = -32768; before <= 32767; before += 65535) {
-            make_block(15, plain, values[k]);
+        for (int32_t before = LEAST_VALUE; before <= GREATEST_VALUE; before += GREATEST_VALUE - LEAST_VALUE) {
+            make_block(MULTIPLEXER, plain, values[k]);
             for (unsigned bits = 0; bits < 8; bits++)
                 run_block(bits, 0, 0, 0, (const int32_t[3]){before, 0, 0});
         }
 }
 
-/* On and Off at, below and above the value that is judged. */
-static void sweep_around(unsigned kind, int32_t a, int32_t b, int32_t x, int32_t y, unsigned class) {
-    const unsigned connectors[2][2] = {{class, 1}, {class, 2}};
-    const int32_t value = actual_of(x, a, b) - (kind == 14 ? actual_of(y, a, b) : 0);
-    for (int32_t on = value - 1; on <= value + 1; on++)
-        for (int32_t off = value - 1; off <= value + 1; off++) {
-            const int32_t parameters[4] = {a, b, on, kind == 16 ? off - on : off};
-            if (on < -20000 || on > 20000 || off < -20000 || off > 20000)
-                continue;
-            make_block(kind, connectors, parameters);
-            for (int32_t before = 0; before <= 1; before++)
-                run_block(0, x, y, 0, (const int32_t[3]){before, 0, 0});
-        }
+static bool is_within(int32_t word, word_range r) { return r.least <= word && word <= r.greatest; }
+
+static const word_range threshold = {-20000, 20000};
+
+/* The parameters are A, B, On, and Off or Δ; nothing is tried where they are not allowed. */
+static void sweep_trigger(unsigned kind, const int32_t *parameters, int32_t x, int32_t y, unsigned class) {
+    if (!is_within(parameters[2], threshold) || !is_within(parameters[3], threshold))
+        return;
+    make_block(kind, (const unsigned[2][2]){{class, 1}, {class, 2}}, parameters);
+    for (int32_t before = 0; before <= 1; before++)
+        run_block(0, x, y, 0, (const int32_t[3]){before, 0, 0});
 }
 
+/* On and Off at, below and above the value that is judged, as near as they may be; Off of kind 16 also as far from On as it may be. */
+static void sweep_around(unsigned kind, int32_t a, int32_t b, int32_t x, int32_t y, unsigned class) {
+    const int32_t value = actual_of(x, a, b) - (kind == COMPARATOR ? actual_of(y, a, b) : 0);
+    const int32_t near_on = held_to(value, threshold.least, threshold.greatest), near_off = kind == DIFFERENTIAL ? value : near_on;
+    for (int32_t on = near_on - 1; on <= near_on + 1; on++)
+        for (int32_t off = near_off - 1; off <= near_off + 1; off++)
+            sweep_trigger(kind, (const int32_t[]){a, b, on, kind == DIFFERENTIAL ? off - on : off}, x, y, class);
+    if (kind != DIFFERENTIAL)
+        return;
+    sweep_trigger(kind, (const int32_t[]){a, b, near_on, threshold.least}, x, y, class);
+    sweep_trigger(kind, (const int32_t[]){a, b, near_on, threshold.greatest}, x, y, class);
+}
+
+static const int32_t gains[] = {-1000, -150, -100, -99, -33, -1, 0, 1, 33, 99, 100, 101, 1000},
+                     offsets[] = {-10000, -1, 0, 1, 10000};
+
+/* In order; at gain 10 those from 3277 on are held. Ay is one of the two before Ax, or of the two behind it. */
 static void sweep_thresholds(unsigned kind) {
-    static const int32_t gains[] = {-1000, -150, -100, -99, -33, -1, 0, 1, 33, 99, 100, 101, 1000},
-                         offsets[] = {-10000, -1, 0, 10000};
-    static const int32_t values[] = {0, 1, 10, 99, 101, 999, 1000, -1, -10, -101, -32768, 32767};
+    static const int32_t values[] = {-32768, -3277, -3000, -101, -10, -1, 0, 1, 10, 99, 101, 999, 1000, 3000, 3276, 3277, 32767};
+    static const size_t steps[] = {1, 2, LENGTH(values) - 1, LENGTH(values) - 2};
     for (size_t g = 0; g < LENGTH(gains); g++)
         for (size_t v = 0; v < LENGTH(values); v++)
-            for (size_t other = 0; other < 4; other++) {
-                const int32_t y = kind == 14 ? values[(v + other * 5) % LENGTH(values)] : 0, b = offsets[other];
-                sweep_around(kind, gains[g], b, values[v], y, 8);
-                if (0 <= values[v] && values[v] <= 1000 && 0 <= y && y <= 1000)
-                    sweep_around(kind, gains[g], b, values[v], y, 7);
+            for (size_t other = 0; other < LENGTH(steps); other++) {
+                const int32_t x = values[v], y = kind == COMPARATOR ? values[(v + steps[other]) % LENGTH(values)] : 0;
+                const int32_t b = offsets[(v + other) % LENGTH(offsets)];
+                sweep_around(kind, gains[g], b, x, y, 8);
+                if (is_within(x, input_range(SERIFDOVE_INPUT_AI(1))) && is_within(y, input_range(SERIFDOVE_INPUT_AI(2))))
+                    sweep_around(kind, gains[g], b, x, y, 7);
             }
+}
+
+/* Inputs with which the value comes to each end before it is held, or as near as this gain allows; the output was the other end. */
+static void sweep_amplifier_of(int32_t a, int32_t b) {
+    static const int32_t ends[] = {LEAST_VALUE, GREATEST_VALUE};
+    make_block(AMPLIFIER, from_flags, (const int32_t[]){a, b});
+    for (size_t k = 0; k < LENGTH(ends); k++) {
+        const int32_t near = a == 0 ? ends[k] : held_to((ends[k] - b) * 100 / a, LEAST_VALUE, GREATEST_VALUE);
+        for (int32_t x = near - 2; x <= near + 2; x++)
+            if (LEAST_VALUE <= x && x <= GREATEST_VALUE)
+                run_block(0, x, 0, 0, (const int32_t[3]){ends[1 - k], 0, 0});
+    }
+}
+
+static void sweep_amplifier(void) {
+    for (size_t g = 0; g < LENGTH(gains); g++)
+        for (size_t o = 0; o < LENGTH(offsets); o++)
+            sweep_amplifier_of(gains[g], offsets[o]);
 }
 
 /* ---- kinds: one block in scans that are worked out by hand */
@@ -195,9 +230,70 @@ static void try_play(const play *p) {
     }
 }
 
-void sweep_kinds(void) {
+static void try_analog_play(const analog_play *p) {
+    make_block(p->kind, from_flags, p->parameters);
+    run_block(0, p->x, p->y, 0, (const int32_t[3]){p->before, 0, 0});
+    if (words.record[SERIFDOVE_BLOCK_OUTPUT(1)] != p->output)
+        tell_mismatch(p->name);
+}
+
+/* ---- amplifiers in scans that are worked out by hand: AM1 and AM2 as the chain says, AQ1 from its last block */
+
+static void make_chain(const chain *p) {
+    begin_circuit(&made, p->n);
+    for (unsigned k = 0; k < p->n; k++) {
+        const unsigned connector[1][2] = {{p->blocks[k].class, p->blocks[k].number}};
+        add_given_block(&made, AMPLIFIER, 0, connector, (const int32_t[]){p->blocks[k].a, p->blocks[k].b});
+    }
+    for (unsigned k = 0; k < AM_ROWS; k++)
+        add_row(&made, 4, k + 1, 9, p->rows[k]);
+    add_row(&made, 3, 1, 9, p->n);
+    end_circuit(&made);
+    lend_circuit(&made);
+}
+
+/* The words that this scan of the chain leaves. */
+static bool is_as_by_hand(const chain *p, const int32_t *outputs) {
+    bool same = words.outputs[SERIFDOVE_AQ(1)] == outputs[p->n - 1];
+    for (unsigned k = 0; k < AM_ROWS; k++)
+        same = same && words.record[SERIFDOVE_AM(k + 1)] == outputs[p->rows[k] - 1];
+    for (unsigned k = 0; k < p->n; k++)
+        same = same &&
+               memcmp(words.record + SERIFDOVE_BLOCK_OUTPUT(k + 1), (const int32_t[3]){outputs[k], 0, 0}, 3 * sizeof *outputs) == 0;
+    return same;
+}
+
+static void try_chain(const chain *p) {
+    const int32_t inputs[SERIFDOVE_INPUT_WORD_COUNT] = {[SERIFDOVE_INPUT_AI(1)] = p->input};
+    const call latch = latch_of(1, inputs), run = run_of(p->n);
+    make_chain(p);
+    words.record_length = SERIFDOVE_RECORD_WORDS(p->n);
+    words.outputs_length = SERIFDOVE_OUTPUT_WORD_COUNT;
+    memset(words.record, 0, words.record_length * sizeof *words.record);
+    for (unsigned k = 0; k < AM_ROWS; k++)
+        words.record[SERIFDOVE_AM(k + 1)] = p->before[k];
+    for (unsigned scan = 0; scan < p->scans; scan++) {
+        expect_number(p->name, &words, &latch, 0);
+        expect_number(p->name, &words, &run, 0);
+        expect_number(p->name, &words, &publish, 0);
+        if (!is_as_by_hand(p, p->outputs[scan]))
+            tell_mismatch(p->name);
+    }
+}
+
+/* ---- kinds: all of them */
+
+static void try_plays(void) {
     for (size_t k = 0; k < play_count; k++)
         try_play(&plays[k]);
+    for (size_t k = 0; k < analog_play_count; k++)
+        try_analog_play(&analog_plays[k]);
+    for (size_t k = 0; k < chain_count; k++)
+        try_chain(&chains[k]);
+}
+
+void sweep_kinds(void) {
+    try_plays();
     for (unsigned kind = 1; kind <= 8; kind++)
         sweep_digital(kind, NULL);
     sweep_settings(9);
@@ -206,10 +302,11 @@ void sweep_kinds(void) {
     sweep_digital(12, (const int32_t[]){1, 1});
     sweep_register();
     sweep_multiplexer();
-    sweep_digital(15, (const int32_t[]){5, -6, 7, -8});
+    sweep_digital(MULTIPLEXER, (const int32_t[]){5, -6, 7, -8});
     sweep_thresholds(13);
-    sweep_thresholds(14);
-    sweep_thresholds(16);
+    sweep_thresholds(COMPARATOR);
+    sweep_thresholds(DIFFERENTIAL);
+    sweep_amplifier();
     sweep_digital(COUNTER, (const int32_t[]){1, 1});
     sweep_counter();
     sweep_digital(STAIRWAY, (const int32_t[]){0, 6, 3, 2});
@@ -218,9 +315,7 @@ void sweep_kinds(void) {
 
 /* ---- refusals: what number each call must get, from ranges and phases alone */
 
-static const call cold = {.name = COLD_START}, warm = {.name = WARM_START}, publish = {.name = PUBLISH};
-
-static bool is_within(int32_t word, word_range r) { return r.least <= word && word <= r.greatest; }
+static const call cold = {.name = COLD_START}, warm = {.name = WARM_START};
 
 static bool is_sound(void) {
     for (size_t place = 0; place < words.record_length; place++)
@@ -284,10 +379,10 @@ static void make_every_kind(chance *with) {
     for (unsigned k = 0; k < DESTINATIONS; k += 1 + below(with, 8)) {
         unsigned class, number;
         destination_of(k, &class, &number);
-        add_row(&made, class, number, class <= 2 ? 6 : 9, class <= 2 ? 1 : 15);
+        add_row(&made, class, number, class <= 2 ? 6 : 9, class <= 2 ? 1 : number % 2 ? MULTIPLEXER : AMPLIFIER);
     }
     end_circuit(&made);
-    lend_circuit(made.bytes, made.length, made.kinds);
+    lend_circuit(&made);
 }
 
 /* A sound record of this phase; in a scan all blocks are done. */
@@ -351,7 +446,7 @@ static void sweep_lengths(chance *with) {
     for (unsigned n = 0; n <= 3; n++)
         for (int in_scan = 0; in_scan <= 1; in_scan++) {
             lively_circuit(&made, with, n, n, 0);
-            lend_circuit(made.bytes, made.length, made.kinds);
+            lend_circuit(&made);
             try_lengths(with, in_scan != 0);
         }
 }
@@ -397,7 +492,7 @@ static unsigned break_circuit(unsigned way) {
         bytes[length - 3] = 0;
     if (way == 3)
         put_two(bytes + 4, made.n + 1);
-    lend_circuit(bytes, length, NULL);
+    lend_bytes(bytes, length);
     return numbers[way];
 }
 
@@ -432,13 +527,13 @@ static void try_faults(chance *with, unsigned name, unsigned faults, unsigned wa
         c.e = way % 2 ? c.e : 65536;
     }
     expect_number("several faults", &words, &c, lowest_number(&c, faults, of_circuit));
-    lend_circuit(made.bytes, made.length, made.kinds);
+    lend_circuit(&made);
 }
 
 static void sweep_orders(chance *with) {
     for (unsigned n = 0; n <= 4; n++) {
         lively_circuit(&made, with, n, 1 + n, 0);
-        lend_circuit(made.bytes, made.length, made.kinds);
+        lend_circuit(&made);
         for (unsigned name = 0; name < CALLS; name++)
             for (unsigned faults = 0; faults < FAULTS; faults++)
                 for (unsigned way = 0; way < 4; way++)
@@ -450,7 +545,7 @@ static void sweep_orders(chance *with) {
 
 static void try_named(const char *name, const uint8_t *bytes, size_t length, serifdove_answer check) {
     const unsigned number = check.number != 0 ? (unsigned)check.number : 20;
-    lend_circuit(bytes, length, NULL);
+    lend_bytes(bytes, length);
     for (unsigned k = 0; k < CALLS; k++) {
         const call c = {.name = k, .c = 1};
         words.outputs_length = SERIFDOVE_OUTPUT_WORD_COUNT;

@@ -20,7 +20,7 @@ static const call cold = {.name = COLD_START}, warm = {.name = WARM_START}, publ
 
 static void begin_lively(chance *with, unsigned n, unsigned rows, unsigned last_kind) {
     lively_circuit(&made, with, n, rows, last_kind);
-    lend_circuit(made.bytes, made.length, made.kinds);
+    lend_circuit(&made);
     words.record_length = SERIFDOVE_RECORD_WORDS(n);
     words.outputs_length = SERIFDOVE_OUTPUT_WORD_COUNT;
 }
@@ -219,7 +219,7 @@ static void changed_circuit(chance *with) {
         memcpy(bytes, made.bytes, made.length);
         for (unsigned k = 1 + below(with, 3); k > 0; k--)
             bytes[below(with, (uint32_t)made.length)] = (uint8_t)(once_in(with, 3) ? below(with, 256) : below(with, KINDS + 1));
-        lend_circuit(bytes, length, NULL);
+        lend_bytes(bytes, length);
         compare_call("changed circuit", &words, &c);
     }
 }
@@ -239,7 +239,7 @@ static void round_of(chance *with) {
         part_scans(with, n);
     for (unsigned k = 0; k < 4; k++)
         long_run(with, 1 + below(with, 16), 200, 0);
-    for (unsigned kind = COUNTER; kind <= STAIRWAY; kind++)
+    for (unsigned kind = COUNTER; kind <= AMPLIFIER; kind++)
         long_run(with, 1 + below(with, 3), 400, kind);
     long_run(with, 17 + below(with, 48), 100, 0);
     for (unsigned k = 0; k < 100; k++)

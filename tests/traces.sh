@@ -5,8 +5,8 @@
 source "$(dirname "${BASH_SOURCE[0]}")/host.bash"
 need_c
 need_archive
-build_c "$work/traces" tests/traces.c tests/wrong_sides.c tests/wrong_kinds.c tests/sweeps.c tests/plays.c tests/calls.c tests/records.c \
-    tests/guarded.c tests/sides.c tests/constructed.c tests/circuits.c $oracle
+build_c "$work/traces" tests/traces.c tests/wrong_sides.c tests/wrong_kinds.c tests/sweeps.c tests/plays.c tests/calls.c tests/ends.c \
+    tests/records.c tests/guarded.c tests/sides.c tests/constructed.c tests/circuits.c $oracle
 
 names=$(run "$work/traces" --self-test-names) && [ -n "$names" ] || exit 1
 finds "$work/traces" '# traces: mismatch: ' $names

@@ -8,6 +8,15 @@
 
 static const side *const oracle = &sides[ORACLE];
 
+/* ---- other bytes for a circuit */
+
+static uint8_t *copy_of(const uint8_t *circuit, size_t length) {
+    static uint8_t copy[1 << 18];
+    if (length > 0)
+        memcpy(copy, circuit, length);
+    return copy;
+}
+
 /* ---- the order of the times */
 
 enum { TIME = 4, TIMES = 3 * TIME, BEFORE_TIMES = 3 + 2 + 3 + 4 }; /* bytes */
@@ -23,9 +32,7 @@ static void put_in_order(uint8_t *times) {
 }
 
 const uint8_t *times_in_order(const uint8_t *circuit, size_t length) {
-    static uint8_t copy[1 << 18];
-    if (length > 0)
-        memcpy(copy, circuit, length);
+    uint8_t *copy = copy_of(circuit, length);
     for (size_t at = 0; at + BEFORE_TIMES + TIMES <= length; at += 3 + two_at(copy + at + 1))
         if (copy[at] == BLOCK && copy[at + 3] == STAIRWAY_SWITCH && two_at(copy + at + 1) == BEFORE_TIMES + TIMES - 3)
             put_in_order(copy + at + BEFORE_TIMES);
@@ -34,6 +41,53 @@ const uint8_t *times_in_order(const uint8_t *circuit, size_t length) {
 
 static serifdove_answer starts_times_in_any_order(const uint8_t *circuit, size_t circuit_len, int32_t *record, size_t record_len) {
     return oracle->cold_start(times_in_order(circuit, circuit_len), circuit_len, record, record_len);
+}
+
+/* ---- the sort of an amplifier */
+
+typedef struct {
+    unsigned class, by; /* a connector of the one to an amplifier gets the other */
+    unsigned blocks;    /* so far */
+    uint8_t kinds[MOST_BLOCKS + 1];
+} replacement;
+
+static void replace_connector(const replacement *r, uint8_t *at) {
+    const connector c = connector_at(at);
+    if (c.class != r->class || c.number == 0 || c.number > r->blocks || r->kinds[c.number] != AMPLIFIER)
+        return;
+    at[0] = (uint8_t)(c.inverted ? r->by | 0x80 : r->by);
+    at[1] = at[2] = 0;
+}
+
+/* In a row, or a block of a known kind, that has its length. */
+static void replace_in_field(replacement *r, unsigned tag, uint8_t *content, size_t length) {
+    if (tag == ROW && length == ROW_CONTENT)
+        replace_connector(r, content + 2);
+    if (tag != BLOCK || length == 0 || content[0] > KINDS || r->blocks == MOST_BLOCKS)
+        return;
+    const kind_rule *rule = &oracle_kind_rules[content[0]];
+    for (unsigned i = 0; length == content_length(rule) && i < rule->digital + rule->analog; i++)
+        replace_connector(r, content + 2 + 3 * i);
+    r->kinds[++r->blocks] = content[0];
+}
+
+static const uint8_t *replaced(const uint8_t *circuit, size_t length, unsigned class, unsigned by) {
+    replacement r = {.class = class, .by = by, .blocks = 0};
+    uint8_t *copy = copy_of(circuit, length);
+    for (size_t at = 0; length - at >= 3 && two_at(copy + at + 1) <= length - at - 3; at += 3 + two_at(copy + at + 1))
+        replace_in_field(&r, copy[at], copy + at + 3, two_at(copy + at + 1));
+    return copy;
+}
+
+const uint8_t *no_digital_amplifiers(const uint8_t *circuit, size_t length) { return replaced(circuit, length, DIGITAL_BLOCK, HI); }
+
+const uint8_t *no_analog_amplifiers(const uint8_t *circuit, size_t length) {
+    enum { UNKNOWN_CLASS = 5 };
+    return replaced(circuit, length, ANALOG_BLOCK, UNKNOWN_CLASS);
+}
+
+static serifdove_answer starts_digital_amplifiers(const uint8_t *circuit, size_t circuit_len, int32_t *record, size_t record_len) {
+    return oracle->cold_start(no_digital_amplifiers(circuit, circuit_len), circuit_len, record, record_len);
 }
 
 /* ---- words of the record */
@@ -71,6 +125,45 @@ static serifdove_answer refuses_running_switches(const uint8_t *circuit, size_t 
     return answer;
 }
 
+/* The first amplifier's output that is this one, of an accepted circuit and a record of its length; NULL where there is none. */
+static int32_t *amplifier_output(const uint8_t *circuit, int32_t *record, size_t record_len, int32_t output) {
+    for (unsigned k = 1; block_words(k) < record_len; k++)
+        if (content_of(circuit, k)[0] == AMPLIFIER && record[block_words(k) + OUTPUT] == output)
+            return record + block_words(k) + OUTPUT;
+    return NULL;
+}
+
+/* Latches though an amplifier's output is this one, which is not sound. */
+static serifdove_answer latch_beyond(int32_t output, const uint8_t *circuit, size_t circuit_len, int32_t *record, size_t record_len,
+                                     const int32_t *inputs, size_t inputs_len, int32_t e) {
+    serifdove_answer answer = oracle->latch(circuit, circuit_len, record, record_len, inputs, inputs_len, e);
+    int32_t *found = answer.number == 21 ? amplifier_output(circuit, record, record_len, output) : NULL;
+    if (found == NULL)
+        return answer;
+    *found = 0;
+    answer = oracle->latch(circuit, circuit_len, record, record_len, inputs, inputs_len, e);
+    *found = output;
+    return answer;
+}
+
+static serifdove_answer takes_output_32768(const uint8_t *circuit, size_t circuit_len, int32_t *record, size_t record_len,
+                                           const int32_t *inputs, size_t inputs_len, int32_t e) {
+    return latch_beyond(GREATEST_VALUE + 1, circuit, circuit_len, record, record_len, inputs, inputs_len, e);
+}
+
+static serifdove_answer takes_output_minus_32769(const uint8_t *circuit, size_t circuit_len, int32_t *record, size_t record_len,
+                                                 const int32_t *inputs, size_t inputs_len, int32_t e) {
+    return latch_beyond(LEAST_VALUE - 1, circuit, circuit_len, record, record_len, inputs, inputs_len, e);
+}
+
+static serifdove_answer refuses_output_minus_32768(const uint8_t *circuit, size_t circuit_len, int32_t *record, size_t record_len,
+                                                   const int32_t *inputs, size_t inputs_len, int32_t e) {
+    serifdove_answer answer = oracle->latch(circuit, circuit_len, record, record_len, inputs, inputs_len, e);
+    if (answer.number == 0 && amplifier_output(circuit, record, record_len, LEAST_VALUE) != NULL)
+        answer.number = 21;
+    return answer;
+}
+
 /* ---- rules: the blocks are worked out one by one, and what one of this kind becomes is changed */
 
 typedef struct {
@@ -102,8 +195,10 @@ static serifdove_answer runs_wrongly(const uint8_t *circuit, size_t circuit_len,
 
 static int32_t parameter(const worked_out *b, unsigned i) { return parameter_at(&oracle_kind_rules[b->content[0]], b->content, i); }
 
-/* Input i, from 0, is 1. */
-static bool is_on(const worked_out *b, unsigned i) { return oracle_value(b->record, connector_at(b->content + 2 + 3 * i)) == 1; }
+/* Input i, from 0. */
+static int32_t input(const worked_out *b, unsigned i) { return oracle_value(b->record, connector_at(b->content + 2 + 3 * i)); }
+
+static bool is_on(const worked_out *b, unsigned i) { return input(b, i) == 1; }
 
 /* ---- wrong rules of the off-delay */
 
@@ -190,7 +285,73 @@ static void runs_on_at_t(const worked_out *b) {
     b->own[NUMBER] = ticks(b, 1);
 }
 
+/* ---- wrong rules of what has an actual value */
+
+typedef struct {
+    range ends;
+    bool before_b, rounded_down;
+} holding;
+
+static const holding right = {.ends = {LEAST_VALUE, GREATEST_VALUE}}, none = {.ends = {INT32_MIN, INT32_MAX}};
+
+static int32_t held(int32_t value, range ends) {
+    return value < ends.least ? ends.least : value > ends.greatest ? ends.greatest : value;
+}
+
+/* The actual value of input i, held so. */
+static int32_t actual(const worked_out *b, unsigned i, holding h) {
+    const int32_t product = input(b, i) * parameter(b, 0), quotient = product / 100 - (h.rounded_down && product % 100 < 0);
+    return h.before_b ? held(quotient, h.ends) + parameter(b, 1) : held(quotient + parameter(b, 1), h.ends);
+}
+
+static void judge(const worked_out *b, int32_t value, int32_t off) {
+    b->own[OUTPUT] = oracle_triggered(value, parameter(b, 2), off, b->before[OUTPUT]);
+}
+
+/* Works out the block again: a comparator, a differential trigger or an amplifier. */
+static void work_out_held(const worked_out *b, holding h) {
+    const int32_t x = actual(b, 0, h);
+    if (b->content[0] == COMPARATOR)
+        judge(b, x - actual(b, 1, h), parameter(b, 3));
+    else if (b->content[0] == DIFFERENTIAL_TRIGGER)
+        judge(b, x, parameter(b, 2) + parameter(b, 3));
+    else
+        b->own[OUTPUT] = x;
+}
+
+static void not_held(const worked_out *b) { work_out_held(b, none); }
+
+static void held_before_b(const worked_out *b) { work_out_held(b, (holding){.ends = right.ends, .before_b = true}); }
+
+static void held_at_minus_32767(const worked_out *b) { work_out_held(b, (holding){.ends = {-32767, GREATEST_VALUE}}); }
+
+static void held_at_minus_32769(const worked_out *b) { work_out_held(b, (holding){.ends = {-32769, GREATEST_VALUE}}); }
+
+static void held_at_32766(const worked_out *b) { work_out_held(b, (holding){.ends = {LEAST_VALUE, 32766}}); }
+
+static void held_at_32768(const worked_out *b) { work_out_held(b, (holding){.ends = {LEAST_VALUE, 32768}}); }
+
+static void rounded_down(const worked_out *b) { work_out_held(b, (holding){.ends = right.ends, .rounded_down = true}); }
+
+static void difference_alone_held(const worked_out *b) {
+    judge(b, held(actual(b, 0, none) - actual(b, 1, none), right.ends), parameter(b, 3));
+}
+
+static void off_held(const worked_out *b) { judge(b, actual(b, 0, right), held(parameter(b, 2) + parameter(b, 3), right.ends)); }
+
+static void kept_from_before(const worked_out *b) { b->own[OUTPUT] = b->before[OUTPUT]; }
+
 /* ---- by name */
+
+/* The ways in which each kind that shows it can be wrong. */
+#define HELD_WRONGLY(wrong_name, wrong_kind)                                                                                           \
+    {{.name = wrong_name "_not_held", .run = runs_wrongly}, wrong_kind, not_held},                                                     \
+        {{.name = wrong_name "_held_before_b", .run = runs_wrongly}, wrong_kind, held_before_b},                                       \
+        {{.name = wrong_name "_held_at_minus_32767", .run = runs_wrongly}, wrong_kind, held_at_minus_32767},                           \
+        {{.name = wrong_name "_held_at_minus_32769", .run = runs_wrongly}, wrong_kind, held_at_minus_32769},                           \
+        {{.name = wrong_name "_held_at_32766", .run = runs_wrongly}, wrong_kind, held_at_32766},                                       \
+        {{.name = wrong_name "_held_at_32768", .run = runs_wrongly}, wrong_kind, held_at_32768},                                       \
+        {{.name = wrong_name "_rounded_down", .run = runs_wrongly}, wrong_kind, rounded_down}
 
 /* Calls that are not named stay as they are. */
 static const struct {
@@ -214,6 +375,16 @@ static const struct {
     {{.name = "warning_and_dark_exchanged", .run = runs_wrongly}, STAIRWAY_SWITCH, warning_and_dark_exchanged},
     {{.name = "dark_a_tick_late", .run = runs_wrongly}, STAIRWAY_SWITCH, dark_a_tick_late},
     {{.name = "runs_on_at_t", .run = runs_wrongly}, STAIRWAY_SWITCH, runs_on_at_t},
+    {{.name = "starts_digital_amplifiers", .cold_start = starts_digital_amplifiers}, 0, NULL},
+    {{.name = "takes_output_32768", .latch = takes_output_32768}, 0, NULL},
+    {{.name = "takes_output_minus_32769", .latch = takes_output_minus_32769}, 0, NULL},
+    {{.name = "refuses_output_minus_32768", .latch = refuses_output_minus_32768}, 0, NULL},
+    HELD_WRONGLY("comparator", COMPARATOR),
+    HELD_WRONGLY("differential", DIFFERENTIAL_TRIGGER),
+    HELD_WRONGLY("amplifier", AMPLIFIER),
+    {{.name = "difference_alone_held", .run = runs_wrongly}, COMPARATOR, difference_alone_held},
+    {{.name = "off_held", .run = runs_wrongly}, DIFFERENTIAL_TRIGGER, off_held},
+    {{.name = "kept_from_before", .run = runs_wrongly}, AMPLIFIER, kept_from_before},
 };
 
 bool make_kinds_wrong(side *archive, const char *name) {

@@ -115,11 +115,11 @@ static serifdove_answer counts_rows_from_0(const uint8_t *text, size_t text_len,
     return answer;
 }
 
-static serifdove_answer knows_17_kinds(const uint8_t *text, size_t text_len, uint8_t *circuit, size_t circuit_len) {
-    static const char switch_row[] = "16,18,";
-    const size_t length = strlen(switch_row);
+static serifdove_answer knows_18_kinds(const uint8_t *text, size_t text_len, uint8_t *circuit, size_t circuit_len) {
+    static const char amplifier_row[] = "16,19,";
+    const size_t length = strlen(amplifier_row);
     const serifdove_answer answer = oracle->read_rows(text, text_len, circuit, circuit_len);
-    if (answer.number == 0 && text_len > length && memcmp(text, switch_row, length) == 0)
+    if (answer.number == 0 && text_len > length && memcmp(text, amplifier_row, length) == 0)
         return (serifdove_answer){31, 1, 0, 0};
     return answer;
 }
@@ -243,7 +243,7 @@ static const struct {
     {"stops_at_block_401", stops_at_block_401, NULL, 0, 0},
     {"refuses_400_blocks", refuses_400_blocks, NULL, 0, 0},
     {"counts_rows_from_0", counts_rows_from_0, NULL, 0, 0},
-    {"knows_17_kinds", knows_17_kinds, NULL, 0, 0},
+    {"knows_18_kinds", knows_18_kinds, NULL, 0, 0},
     {"read_with_room_short_by_one", read_with_room_short_by_one, NULL, 0, 0},
     {"reads_and_touches_bytes_behind", read_touching, NULL, 0, 0},
     {"reads_and_touches_on_30", read_touching, NULL, 30, 0},

@@ -9,7 +9,7 @@ use lib.Dec.{eqb, leb}
 use lib.ListN.{getD, List·getD-eq-default}
 use lib.IntN.{pos}
 use Rattle.words.specs.Signed.{Between}
-use Rattle.kinds.specs.Kinds.{Range, _to_, kindOf, parameter, scaled, indexed}
+use Rattle.kinds.specs.Kinds.{Range, _to_, kindOf, parameter, scaled, gained, indexed}
 use Rattle.blocks.specs.declared.Prepared.{Prepared}
 use Rattle.blocks.specs.Blocks.{idle, rules, workedOut}
 use Rattle.blocks.specs.Fit.{Fit, Scaling}
@@ -19,9 +19,13 @@ module _ {kind : ℕ} {p : Prepared} (f : Fit kind p) where
   param-at : (rs : List Range) → kindOf kind .parameters ≡ rs → (j : ℕ) → j < 3 → Between (getD rs j (pos 0 to pos 0) .least) (getD rs j (pos 0 to pos 0) .greatest) (parameter (p .params) j)
   param-at rs e j h = rw e at (f .params-are j (omega arith) (λ is. h))
 
+  -- kinds 13, 14 and 16; kind 19
   pub scaling : kindOf kind .parameters ≡ scaled → Scaling p
   unfolding scaled
   scaling e = record { gain-is = param-at scaled e 0 (omega arith); offset-is = param-at scaled e 1 (omega arith) }
+
+  pub gaining : kindOf kind .parameters ≡ gained → Scaling p
+  gaining e = record { gain-is = param-at gained e 0 (omega arith); offset-is = param-at gained e 1 (omega arith) }
 
   pub indexing : kindOf kind .parameters ≡ indexed → Between (pos 1) (pos 8) (parameter (p .params) 1)
   unfolding indexed
@@ -42,11 +46,11 @@ none-of kind (suc n) ne h k = by (eqb kind (suc n)) refl (none-of kind n (ne .0)
     by true e less = ne .1 (eqb-true kind (suc n) e)
     by false e less = less (omega (arith, eqb-false kind (suc n) e))
 
-pub no-rule : (kind : ℕ) → NoneOf kind 18 → workedOut kind ≡ idle
+pub no-rule : (kind : ℕ) → NoneOf kind 19 → workedOut kind ≡ idle
 unfolding workedOut rules
 no-rule zero ne = refl
-no-rule (suc k) ne = by (leb (suc k) 18) refl
+no-rule (suc k) ne = by (leb (suc k) 19) refl
   where
-    by : (b : Bool) → leb (suc k) 18 ≡ b → getD rules (suc k) idle ≡ idle
-    by true e = absurd (none-of (suc k) 18 ne (omega arith) (leb-true (suc k) 18 e))
-    by false e = List·getD-eq-default rules idle (leb-false (suc k) 18 e)
+    by : (b : Bool) → leb (suc k) 19 ≡ b → getD rules (suc k) idle ≡ idle
+    by true e = absurd (none-of (suc k) 19 ne (omega arith) (leb-true (suc k) 19 e))
+    by false e = List·getD-eq-default rules idle (leb-false (suc k) 19 e)

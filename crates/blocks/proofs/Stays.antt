@@ -11,13 +11,14 @@ use lib.IntN.{ℤ, pos, _-ℤ_}
 use Rattle.words.specs.Signed.{wordOf}
 use Rattle.words.proofs.Bounds.{zero-between, count-between, amount-between}
 use Rattle.words.proofs.Bits.{bit-between, word-between}
-use Rattle.kinds.specs.Kinds.{Kind, Sort, digital, analog, none, elapsed, upTo, In, sixteen, delay, latching, shifting, trigger, choosing, mostCount, counting, stairway, kinds, kindOf, chosen, mostOf, parameter, sortRange, outputRange, rememberedRange}
+use Rattle.kinds.specs.Kinds.{Kind, Sort, digital, analog, none, elapsed, upTo, In, sixteen, delay, latching, shifting, trigger, choosing, mostCount, counting, stairway, amplifying, kinds, kindOf, chosen, mostOf, parameter, sortRange, outputRange, rememberedRange}
 use Rattle.kinds.specs.Time.{ticks}
 use Rattle.kinds.specs.declared.Ticks.{Ticks}
 use Rattle.rules.specs.declared.BlockWords.{BlockWords}
-use Rattle.rules.specs.Rules.{three, gives, shows, bit, allOf, someOf, andGate, andEdge, nandGate, nandEdge, orGate, norGate, xorGate, notGate, grown, onDelay, offDelay, latchingRelay, digit, registerBit, stepped, shiftRegister, actualOf, triggersOn, thresholdTrigger, compared, multiplexed, tally, countsOn, upDownCounter, trgAndRunning, stands, isDark, dims, stairwaySwitch}
+use Rattle.rules.specs.Rules.{three, gives, shows, bit, allOf, someOf, andGate, andEdge, nandGate, nandEdge, orGate, norGate, xorGate, notGate, grown, onDelay, offDelay, latchingRelay, digit, registerBit, stepped, shiftRegister, actualOf, triggersOn, thresholdTrigger, compared, multiplexed, amplified, tally, countsOn, upDownCounter, trgAndRunning, stands, isDark, dims, stairwaySwitch}
 use Rattle.rules.proofs.Register.{digit-small, shifted-below}
 use Rattle.rules.proofs.Worked.{tally-most}
+use Rattle.rules.proofs.Actual.{actual-in}
 use Rattle.blocks.specs.declared.Prepared.{Prepared}
 use Rattle.blocks.specs.Blocks.{wasBit, wasOn, wasPressed, wasRunning, wasNumber, Rule, idle, rules, workedOut}
 use Rattle.blocks.specs.Fit.{Fit, Sound}
@@ -193,6 +194,13 @@ unfolding multiplexed
 choice-sound p f t en s1 s2 =
     record { output-is = chosen-in p f en s1 s2; remembered-is = zero-between; number-is = zero-between }
 
+-- ---- the amplifier: an actual value is held to 16 bits
+
+amplifier-sound : (t : Ticks) (ax : ℤ) (p : List ℤ) → Sound amplifying t (amplified ax p)
+unfolding amplified
+amplifier-sound t ax p =
+    record { output-is = actual-in ax (parameter p 0) (parameter p 1); remembered-is = zero-between; number-is = zero-between }
+
 -- ---- all kinds
 
 abbrev pub Keeps : ℕ → Rule → Type 0
@@ -228,6 +236,7 @@ each-keeps =
     also (λ b a p was e f s. threshold-sound (p .time) (parameter a 0) (p .params) (wasOn was))
     also (λ b a p was e f s. count-sound (p .time) (bit b 0) (bit b 1) (bit b 2) (wasBit was) (wasOn was) (wasNumber was) (p .params) (amount-between (s .number-is) .1))
     also (λ b a p was e f s. stairs-sound (p .time) (stairs-stood (bit b 0) (wasPressed was) (wasRunning was) (ticks (wasNumber was)) (p .time) (p .warning) (p .dark) e) (omega arith))
+    also (λ b a p was e f s. amplifier-sound (p .time) (parameter a 0) (p .params))
     also tt
 
 -- a block's words stay in the ranges that a sound record asks
@@ -283,7 +292,7 @@ abbrev pub Uses : ℕ → Rule → Type 0
 Uses kind r = (b : List Bool) (a : List ℤ) (p : Prepared) (was : BlockWords) (e : Ticks) → Leaves (kindOf kind) (r b a p was e)
 
 each-uses : Each Uses rules
-unfolding rules kindOf kinds andGate andEdge nandGate nandEdge orGate norGate xorGate notGate thresholdTrigger compared multiplexed
+unfolding rules kindOf kinds andGate andEdge nandGate nandEdge orGate norGate xorGate notGate thresholdTrigger compared multiplexed amplified
 each-uses =
     (λ b a p was e. leaves-zero _ _)
     also (λ b a p was e. leaves-zero _ _)
@@ -304,6 +313,7 @@ each-uses =
     also (λ b a p was e. leaves-zero _ _)
     also (λ b a p was e. count-leaves (bit b 0) (bit b 1) (bit b 2) (wasBit was) (wasOn was) (wasNumber was) (p .params))
     also (λ b a p was e. stairs-leaves (stairs-stood (bit b 0) (wasPressed was) (wasRunning was) (ticks (wasNumber was)) (p .time) (p .warning) (p .dark) e))
+    also (λ b a p was e. leaves-zero _ _)
     also tt
 
 -- the words that a kind has no use for become 0

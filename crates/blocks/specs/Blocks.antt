@@ -9,7 +9,7 @@ use Rattle.words.specs.Signed.{over, bitOf}
 use Rattle.kinds.specs.Time.{ticks, settingOf, ticksOf}
 use Rattle.kinds.specs.Kinds.{kindOf, parameter}
 use Rattle.kinds.specs.declared.Ticks.{Ticks}
-use Rattle.rules.specs.Rules.{three, bit, andGate, andEdge, nandGate, nandEdge, orGate, norGate, xorGate, notGate, onDelay, offDelay, latchingRelay, shiftRegister, thresholdTrigger, compared, multiplexed, withOff, upDownCounter, stairwaySwitch}
+use Rattle.rules.specs.Rules.{three, bit, andGate, andEdge, nandGate, nandEdge, orGate, norGate, xorGate, notGate, onDelay, offDelay, latchingRelay, shiftRegister, thresholdTrigger, compared, multiplexed, withOff, amplified, upDownCounter, stairwaySwitch}
 use Rattle.rules.specs.declared.BlockWords.{BlockWords}
 use Rattle.blocks.specs.declared.Prepared.{Prepared}
 
@@ -77,6 +77,7 @@ rules =
     ∷ (λ b a p was e. thresholdTrigger (parameter a 0) (p .params) (wasOn was))  -- 16 differential trigger: Ax, with its Off worked out
     ∷ (λ b a p was e. upDownCounter (bit b 0) (bit b 1) (bit b 2) (wasBit was) (wasOn was) (wasNumber was) (p .params))  -- 17 up/down counter: R, Cnt, Dir
     ∷ (λ b a p was e. stairwaySwitch (bit b 0) (wasPressed was) (wasRunning was) (ticks (wasNumber was)) (p .time) (p .warning) (p .dark) e)  -- 18 stairway switch: Trg
+    ∷ (λ b a p was e. amplified (parameter a 0) (p .params))  -- 19 analog amplifier: Ax
     ∷ []
 
 -- what a block's three words become

@@ -2,9 +2,8 @@
 use mathlib.Core.Path.{_≡_}
 use mathlib.Core.List.{List}
 use Prim.Native.Nat.{ℕ, _≤_, _<_, _^_}
-use lib.IntN.{ℤ, pos}
-use Rattle.words.specs.Signed.{minus, Between}
-use Rattle.kinds.specs.Kinds.{Kind, In, kindOf, parameter, rangeAt, sixteen, outputRange, rememberedRange, numberRange}
+use lib.IntN.{ℤ}
+use Rattle.kinds.specs.Kinds.{Kind, In, kindOf, parameter, rangeAt, gain, offset, sixteen, outputRange, rememberedRange, numberRange}
 use Rattle.kinds.specs.declared.Ticks.{Ticks}
 use Rattle.rules.specs.declared.BlockWords.{BlockWords}
 use Rattle.blocks.specs.declared.Prepared.{Prepared}
@@ -18,8 +17,8 @@ pub record Fit (kind : ℕ) (p : Prepared) : Type 0 where
 
 -- of the gain and the offset among them
 pub record Scaling (p : Prepared) : Type 0 where
-  pub gain-is : Between (minus 1000) (pos 1000) (parameter (p .params) 0)
-  pub offset-is : Between (minus 10000) (pos 10000) (parameter (p .params) 1)
+  pub gain-is : In gain (parameter (p .params) 0)
+  pub offset-is : In offset (parameter (p .params) 1)
 
 -- of the analog inputs that a sound record gives
 pub record Sixteen (a : List ℤ) : Type 0 where

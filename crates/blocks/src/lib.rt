@@ -7,7 +7,7 @@ ghost use Rattle.words.specs.Signed.{Between, over};
 ghost use Rattle.kinds.specs.Kinds.{kindOf, parameter, allowed};
 ghost use Rattle.kinds.specs.Table.{Lent};
 ghost use Rattle.kinds.specs.Time.{ticks};
-ghost use Rattle.rules.specs.Rules.{three, bit, onDelay, offDelay, latchingRelay, shiftRegister, thresholdTrigger, compared, multiplexed, upDownCounter, stairwaySwitch};
+ghost use Rattle.rules.specs.Rules.{three, bit, onDelay, offDelay, latchingRelay, shiftRegister, thresholdTrigger, compared, multiplexed, amplified, upDownCounter, stairwaySwitch};
 ghost use Rattle.blocks.specs.Blocks.{timeOf, prepared, wasBit, wasOn, wasPressed, wasRunning, wasNumber, workedOut};
 ghost use Rattle.blocks.specs.Fit.{Fit, Sixteen, Scaling};
 use kinds::KindTable;
@@ -210,6 +210,15 @@ fn stairs_block(bits: [bool; 4], p: Prepared, was: BlockWords, e: Ticks) -> Bloc
     )
 }
 
+// A block of kind 19: Ax.
+fn amplify_block(analog: [i32; 2], p: Prepared) -> BlockWords
+    requires { ⌜ Sixteen analog × Scaling p ⌝ }
+    ensures { λ r. ⌜ r ≡ amplified (parameter analog 0) (p .params) ⌝ }
+{
+    let params = p.params;
+    thresholds::amplifier(analog[0], params)
+}
+
 // No block has another kind.
 fn nothing() -> BlockWords
     ensures { λ r. ⌜ r ≡ three (pos 0) (pos 0) (pos 0) ⌝ }
@@ -248,6 +257,7 @@ pub fn worked_out(
         16 => trigger_block(analog, p, was),
         17 => count_block(bits, p, was),
         18 => stairs_block(bits, p, was, e),
+        19 => amplify_block(analog, p),
         _ => nothing(),
     }
 }

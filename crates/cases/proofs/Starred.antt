@@ -3,7 +3,7 @@ use mathlib.Core.Path.{refl}
 use Rattle.words.specs.Bytes.{numberAt, bytesOf}
 use Rattle.kinds.specs.Time.{ticksOf}
 use Rattle.kinds.specs.Kinds.{kinds, kindOf, known, allowed, scaled, timed, indexed}
-use Rattle.rules.specs.Rules.{andEdge, onDelay, offDelay, shiftRegister, actualOf, triggersOn, thresholdTrigger, countsOn, upDownCounter, stairwaySwitch}
+use Rattle.rules.specs.Rules.{andEdge, onDelay, offDelay, shiftRegister, unheldOf, actualOf, triggersOn, thresholdTrigger, compared, amplified, countsOn, upDownCounter, stairwaySwitch}
 use Rattle.connectors.specs.Connectors.{connectorsAt, member, takes, least, greatest, namesBlock, misfits, wrongSort, wrong, later, anyOf}
 use Rattle.blockfield.specs.BlockField.{signedsAt, wrongLength, wrongKind, wrongInputs, laterInputs, blockFaults}
 use Rattle.fields.specs.Fields.{headerFaults, rowFaults, endFaults, limitOf, spotOf}
@@ -30,6 +30,6 @@ unfolding table
     known allowed kindOf kinds scaled timed indexed ticksOf
     linesOf lineOf sound every indexOf placeOf changeFrom
     turned stepsFrom order along step becomes bitsOf valuesOf bitFrom plainBit sourceOf
-    prepared workedOut rules andEdge onDelay offDelay shiftRegister thresholdTrigger triggersOn actualOf upDownCounter countsOn stairwaySwitch
+    prepared workedOut rules andEdge onDelay offDelay shiftRegister thresholdTrigger triggersOn unheldOf actualOf compared amplified upDownCounter countsOn stairwaySwitch
     outputsOf destined carried
-starred = (refl, (refl, (refl, (refl, (refl, (refl, (refl, (refl, (refl, (refl, (refl, (refl, (refl, (refl, (refl, tt)))))))))))))))
+starred = (refl, (refl, (refl, (refl, (refl, (refl, (refl, (refl, (refl, (refl, (refl, (refl, (refl, (refl, (refl, (refl, (refl, (refl, (refl, tt)))))))))))))))))))

@@ -1,6 +1,6 @@
--- Document 01, "Cases (starred: proved)": the eleven starred cases as one table, and behind them four rows for document 02, worked out by
--- hand: kinds 17 and 18, and the off-delay with Trg held. A row says what is played, with `play` of crates/calls, and what must come out;
--- `starred` is the theorem that it does.
+-- Document 01, "Cases (starred: proved)": the eleven starred cases as one table, and behind them eight rows for document 02, worked out by
+-- hand: kinds 17 and 18, the off-delay with Trg held, actual values held and kind 19. A row says what is played, with `play` of
+-- crates/calls, and what must come out; `starred` is the theorem that it does.
 use Prim.Native.Nat.{ℕ, _-_}
 use mathlib.Core.Path.{_≡_}
 use mathlib.Core.List.{List, [], _∷_, _++_, map}
@@ -15,8 +15,8 @@ use Rattle.connectors.specs.Connectors.{Connector}
 use Rattle.decoding.specs.Decoded.{Block, Row}
 use Rattle.kept.specs.Keeps.{All, encode}
 use Rattle.lines.specs.Lines.{unused}
-use Rattle.record.specs.Places.{Place, done, analog, flag, output, remembered, number, sizeOf, at, word, put}
-use Rattle.destinations.specs.Destinations.{Q, M}
+use Rattle.record.specs.Places.{Place, done, analog, flag, output, remembered, number, sizeOf, at, word, put, analogFlag}
+use Rattle.destinations.specs.Destinations.{Q, M, AQ, AM}
 use Rattle.calls.specs.Calls.{coldStart, warmStart, latch, run, publish}
 use Rattle.calls.specs.Play.{AnyCall, check, on, Moment, moment, play}
 
@@ -79,6 +79,12 @@ fromBlock n = record { class = 6; number = n }
 abbrev fromAnalog : ℕ → Connector
 fromAnalog n = record { class = 7; number = n }
 
+abbrev fromAM : ℕ → Connector
+fromAM n = record { class = 8; number = n }
+
+abbrev fromAnalogBlock : ℕ → Connector
+fromAnalogBlock n = record { class = 9; number = n }
+
 -- a row, by its destination
 abbrev to : ℕ → ℕ → Connector → Row
 to class number from = record { class = class; number = number; from = from }
@@ -129,6 +135,26 @@ from5 = blockOf 17 (fromI 1 ∷ fromI 2 ∷ fromI 3 ∷ []) (pos 5 ∷ pos 5 ∷
 abbrev stairs : Block
 stairs = blockOf 18 (fromI 1 ∷ []) (pos 0 ∷ pos 6 ∷ pos 3 ∷ pos 2 ∷ [])
 
+-- an amplifier, by Ax, A and B
+abbrev amplifier : Connector → ℤ → ℤ → Block
+amplifier ax a b = blockOf 19 (ax ∷ []) (a ∷ b ∷ [])
+
+-- AI1 times 10, and a block behind it; the row AQ1 from this one
+abbrev behindTimes10 : Block → List ℕ
+behindTimes10 b =
+    encode (record { version = 1; n = 2; blocks = amplifier (fromAnalog 1) (pos 1000) (pos 0) ∷ b ∷ []; rows = to AQ 1 (fromAnalogBlock 2) ∷ [] })
+
+-- an amplifier of AM1 whose output AM1 becomes
+abbrev roundAM1 : ℤ → ℤ → List ℕ
+roundAM1 a b = encode (record { version = 1; n = 1; blocks = amplifier (fromAM 1) a b ∷ []; rows = to AM 1 (fromAnalogBlock 1) ∷ [] })
+
+-- on 10 times AM1 minus 10 times AM2, and on 10 times AM1 with Off = On + Δ
+abbrev comparatorOn : ℤ → ℤ → Block
+comparatorOn on′ off′ = blockOf 14 (fromAM 1 ∷ fromAM 2 ∷ []) (pos 1000 ∷ pos 0 ∷ on′ ∷ off′ ∷ [])
+
+abbrev differentialOn : ℤ → ℤ → Block
+differentialOn on′ delta = blockOf 16 (fromAM 1 ∷ []) (pos 1000 ∷ pos 0 ∷ on′ ∷ delta ∷ [])
+
 -- no block; the rows M1 from M2 and M2 from M1
 abbrev exchange : List ℕ
 exchange = encode (record { version = 1; n = 0; blocks = []; rows = to M 1 (fromM 2) ∷ to M 2 (fromM 1) ∷ [] })
@@ -142,6 +168,12 @@ filled n x = moment (replicate (sizeOf n) (pos x)) (replicate 28 (pos x))
 -- with another word at a place of the record
 abbrev but : Moment → Place → ℕ → Moment
 but m p x = moment (put (m .rec) p (pos x)) (m .outputs)
+
+-- one block that had Q q, with these numbers in AM1 and AM2
+abbrev withAM : ℤ → ℤ → ℕ → Moment
+withAM x y q =
+    let m = but (filled 1 0) (output 1) q in
+    moment (put (put (m .rec) (analogFlag 1) x) (analogFlag 2) y) (m .outputs)
 
 -- one block in a scan with d blocks done: its three words 0, all others 1
 abbrev inScan : ℕ → Moment
@@ -176,6 +208,12 @@ q1 m = at (m .outputs) 0 ∷ []
 -- Q1, and the actual value of the first analog input at gain −33 and B 0
 abbrev actual : Moment → List ℤ
 actual m = at (m .outputs) 0 ∷ actualOf (word (m .rec) (analog 1)) (minus 33) (pos 0) ∷ []
+
+abbrev aq1 : Moment → List ℤ
+aq1 m = at (m .outputs) 20 ∷ []
+
+abbrev am1 : Moment → List ℤ
+am1 m = word (m .rec) (analogFlag 1) ∷ []
 
 abbrev numberOf1 : Moment → List ℤ
 numberOf1 m = word (m .rec) (number 1) ∷ []
@@ -240,6 +278,32 @@ abbrev counted : ℕ → ℕ → ℕ → ℕ → ℕ → Case
 counted n q dir next q′ =
     once from5 (but (but (filled 1 0) (number 1) n) (output 1) q) (reading (0 ∷ 1 ∷ dir ∷ []) []) q1AndNumber (pos q′ ∷ pos next ∷ [])
 
+-- AQ1 of two blocks behind one another, by AI1
+abbrev levelled : Block → List ℕ → List ℤ → Case
+levelled b levels aq =
+    record {
+      circuit = behindTimes10 b;
+      from = filled 2 0;
+      played = map (λ x. on (latch (value x) (pos 0)) ∷ on (run 2) ∷ on (publish 28) ∷ []) levels;
+      watched = aq1;
+      out = map (λ x. scanned 2 (x ∷ [])) aq;
+    }
+
+-- AM1 scan after scan, from a cold start on
+abbrev goesRound : ℤ → ℤ → List ℤ → Case
+goesRound a b am =
+    record {
+      circuit = roundAM1 a b;
+      from = filled 1 0;
+      played = (on coldStart ∷ []) ∷ map (λ x. scan 0 (value 0)) am;
+      watched = am1;
+      out = seen (acceptedWith 0 0 ∷ []) (pos 0 ∷ []) ∷ map (λ x. scanned 1 (x ∷ [])) am;
+    }
+
+-- Q1 of a block that had Q q, by AM1 and AM2
+abbrev judged : Block → ℤ → ℤ → ℕ → ℕ → Case
+judged b x y q q′ = once b (withAM x y q) (value 0) q1 (pos q′ ∷ [])
+
 -- a run of 0 blocks in a scan with d blocks done
 abbrev run0 : ℕ → ℕ → Case
 run0 d toGo =
@@ -295,5 +359,25 @@ table =
     ∷ (heldThroughStart (offDelayWith (fromI 2)) 1
     ∷ heldThroughStart (retentive (offDelayWith (fromI 2))) 0
     ∷ q1Over (offDelayWith (fromM 8)) 1 (pressed ∷ pressed ∷ letGo ∷ pressed ∷ []) (0 ∷ 0 ∷ 0 ∷ 1 ∷ [])
+    ∷ [])
+    -- No. 5. A level of 300 and of 1000, times 10, times 10: 30,000, and 32,767 where 100,000 was; with −10 and B 100 at the second: −29,900
+    -- and −32,768.
+    ∷ (levelled (amplifier (fromAnalogBlock 1) (pos 1000) (pos 0)) (300 ∷ 1000 ∷ 300 ∷ []) (pos 30000 ∷ pos 32767 ∷ pos 30000 ∷ [])
+    ∷ levelled (amplifier (fromAnalogBlock 1) (minus 1000) (pos 100)) (300 ∷ 1000 ∷ []) (minus 29900 ∷ minus 32768 ∷ [])
+    ∷ [])
+    -- An amplifier that reads itself through AM1: 10 · x + 5, and −10 · x + 4, which goes from one end to the other.
+    ∷ (goesRound (pos 1000) (pos 5) (pos 5 ∷ pos 55 ∷ pos 555 ∷ pos 5555 ∷ pos 32767 ∷ pos 32767 ∷ [])
+    ∷ goesRound (minus 1000) (pos 4) (pos 4 ∷ minus 36 ∷ pos 364 ∷ minus 3636 ∷ pos 32767 ∷ minus 32768 ∷ pos 32767 ∷ [])
+    ∷ [])
+    -- Comparator at both ends: 32,767 − 30,000 is 2767, and −32,768 + 30,000 is −2768, each in a window of its own. Differential trigger:
+    -- 32,767 is from On 20,000 to below Off 35,000; −32,768 is not at or below Off −35,000, so Q stays 1.
+    ∷ (judged (comparatorOn (pos 2767) (pos 2768)) (pos 32767) (pos 3000) 0 1
+    ∷ judged (comparatorOn (minus 2768) (minus 2767)) (minus 32768) (minus 3000) 0 1
+    ∷ judged (differentialOn (pos 20000) (pos 15000)) (pos 32767) (pos 0) 0 1
+    ∷ judged (differentialOn (minus 20000) (minus 15000)) (minus 32768) (pos 0) 1 1
+    ∷ [])
+    -- An amplifier is named by class 9, and not by class 6.
+    ∷ (checked (behindTimes10 (amplifier (fromAnalogBlock 1) (pos 100) (pos 0))) (acceptedWith 2 1)
+    ∷ checked (behindTimes10 (blockOf 8 (fromBlock 1 ∷ []) [])) (refusedAt 6 22)
     ∷ [])
     ∷ []

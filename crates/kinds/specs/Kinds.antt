@@ -1,5 +1,5 @@
 -- Document 01, "The blocks": the table by kind. "Sixteen kinds, each with its inputs in this order, then its parameters." Document 02,
--- No. 2: kinds 17 and 18.
+-- No. 2: kinds 17 and 18; No. 5: kind 19.
 use Prim.Native.Nat.{ℕ, zero, suc, _+_, _*_}
 use mathlib.Core.Bool.{Bool, true, false, _&&_}
 use mathlib.Core.List.{List, [], _∷_}
@@ -69,9 +69,20 @@ timed = pos 0 to pos 2 ∷ pos 0 to pos 9999 ∷ []
 unfoldable pub indexed : List Range
 indexed = pos 1 to pos 4 ∷ pos 1 to pos 8 ∷ []
 
--- "Gain A is −1000..1000 hundredths, B −10,000..10,000, On, Off and Δ −20,000..20,000"
+-- "Gain A is −1000..1000 hundredths, B −10,000..10,000"
+abbrev pub gain : Range
+gain = minus 1000 to pos 1000
+
+abbrev pub offset : Range
+offset = minus 10000 to pos 10000
+
+-- A, B, and "On, Off and Δ −20,000..20,000"
 unfoldable pub scaled : List Range
-scaled = minus 1000 to pos 1000 ∷ minus 10000 to pos 10000 ∷ minus 20000 to pos 20000 ∷ minus 20000 to pos 20000 ∷ []
+scaled = gain ∷ offset ∷ minus 20000 to pos 20000 ∷ minus 20000 to pos 20000 ∷ []
+
+-- A, B
+abbrev pub gained : List Range
+gained = gain ∷ offset ∷ []
 
 -- 16 bits with a sign; "V −32,768..32,767"
 abbrev pub sixteen : Range
@@ -141,6 +152,10 @@ counting = row 3 0 false counted 0 true digital 1 (upTo mostCount)
 abbrev pub stairway : Kind
 stairway = row 1 0 false warned 3 true digital 3 elapsed
 
+-- the analog amplifier: "It is an analog block"
+abbrev pub amplifying : Kind
+amplifying = row 0 1 false gained 0 false analog 0 none
+
 -- the table, by kind; no block has kind 0
 unfoldable pub kinds : List Kind
 kinds =
@@ -163,6 +178,7 @@ kinds =
     ∷ trigger 1  -- 16 differential trigger: Ax; A, B, On, Δ
     ∷ counting  -- 17 up/down counter: R, Cnt, Dir; On, Off
     ∷ stairway  -- 18 stairway switch: Trg; base, T, T!, T!L
+    ∷ amplifying  -- 19 analog amplifier: Ax; A, B
     ∷ []
 
 -- the entry of a kind
@@ -222,7 +238,7 @@ unfoldable pub allowed : ℕ → List ℤ → Bool
 allowed kind p = rangesFit (kindOf kind) p && (settingsFit (kindOf kind .times) p && inOrder (kindOf kind .times) p)
 
 -- ---- which words a block may have: "block words that the block's kind has no use for 0, .. bits 0 or 1, Ta 0..T in ticks,
--- register 0..255, .. multiplexer outputs −32,768..32,767"; "A sound count is 0..999,999"
+-- register 0..255, .. multiplexer outputs −32,768..32,767"; "A sound count is 0..999,999"; the amplifier is "sound in that range" too
 
 abbrev pub sortRange : Sort → Range
 sortRange digital = pos 0 to pos 1

@@ -46,7 +46,7 @@ unfoldable pub cell : ℕ → ℕ → ℤ
 cell kind column = getD (rowOf (kindOf kind)) column (pos 0)
 
 abbrev pub rows : ℕ
-rows = 19
+rows = 20
 
 -- the table is lent, and has a row for the kind
 pub record Lent (table : List (List ℤ)) (kind : ℕ) : Type 0 where

@@ -56,7 +56,7 @@ pub type KindTable = [[i32; COLUMNS]; ROWS];
 
 const COLUMNS: usize = 18;
 
-const ROWS: usize = 19;
+const ROWS: usize = 20;
 
 // By kind, from 0. Digital inputs, analog inputs, what an unused one counts; parameters, settings among them; retentive or not;
 // output analog or not, greatest remembered word, greatest number (-1: Ta); content length; least of four parameters, greatest.
@@ -80,6 +80,7 @@ const KINDS: KindTable = [
     [0, 1, 0, 4, 0, 0, 0, 0, 0, 21, -A, -B, -L, -L, A, B, L, L], // 16 differential trigger
     [3, 0, 0, 2, 0, 1, 0, 1, N, 19, 0, 0, 0, 0, N, N, 0, 0], // 17 up/down counter
     [1, 0, 0, 4, 3, 1, 0, 3, -1, 21, 0, 0, 0, 0, 2, T, T, T], // 18 stairway switch
+    [0, 1, 0, 2, 0, 0, 1, 0, 0, 13, -A, -B, 0, 0, A, B, 0, 0], // 19 analog amplifier
 ];
 
 // The table, to be read once in an open call and lent: a constant array is stored anew at each reading.

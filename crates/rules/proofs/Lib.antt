@@ -1,3 +1,4 @@
 pub mod Register
+pub mod Actual
 pub mod Cases
 pub mod Worked

@@ -1,5 +1,6 @@
 -- Document 01, "The blocks": what each kind makes of its inputs, its parameters and what it had, on plain values. A bit is true where
--- the paper says 1. `was` is the remembered bit, `q` the output of the last scan. Kinds 17 and 18: document 02, No. 2; kind 10 with its No. 3.
+-- the paper says 1. `was` is the remembered bit, `q` the output of the last scan. Kinds 17 and 18: document 02, No. 2; kind 10 with its No. 3;
+-- the actual value held, and kind 19: its No. 5.
 use Prim.Native.Nat.{ℕ, _+_, _-_, _*_, _/_, _%_, _^_, min}
 use mathlib.Core.Bool.{Bool, true, false, not, cond, _&&_, _||_, Bool·beq}
 use mathlib.Core.List.{List, [], _∷_}
@@ -8,7 +9,7 @@ use lib.ListN.{getD}
 use lib.IntN.{ℤ, pos, _+ℤ_, _-ℤ_, _*ℤ_}
 use lib.Signed.{ltZ, leZ, quotZ}
 use Rattle.words.specs.Signed.{wordOf}
-use Rattle.kinds.specs.Kinds.{mostCount, parameter}
+use Rattle.kinds.specs.Kinds.{Range, sixteen, mostCount, parameter}
 use Rattle.kinds.specs.Time.{ticks}
 use Rattle.kinds.specs.declared.Ticks.{Ticks}
 use Rattle.rules.specs.declared.BlockWords.{BlockWords}
@@ -134,9 +135,17 @@ shiftRegister input trg down was r j =
 
 -- ---- thresholds: the parameters are A, B, On, Off
 
--- "Actual value = (input · A) / 100 with the fraction dropped toward zero, plus B."
+-- "(input · A) / 100 with the fraction dropped toward zero, plus B"
+unfoldable pub unheldOf : ℤ → ℤ → ℤ → ℤ
+unheldOf x a b = quotZ (x *ℤ a) (pos 100) +ℤ b
+
+-- a number "held to" a range: below it the least, above it the greatest
+abbrev pub heldTo : Range → ℤ → ℤ
+heldTo r x = cond (ltZ x (r .least)) (r .least) (cond (ltZ (r .greatest) x) (r .greatest) x)
+
+-- "The actual value is now held to −32,768..32,767 after the offset, before any comparison"
 unfoldable pub actualOf : ℤ → ℤ → ℤ → ℤ
-actualOf x a b = quotZ (x *ℤ a) (pos 100) +ℤ b
+actualOf x a b = heldTo sixteen (unheldOf x a b)
 
 -- "If On ≥ Off: 1 above On, 0 at or below Off, else as before. If On < Off: 1 exactly when On ≤ value < Off."
 unfoldable pub triggersOn : ℤ → ℤ → ℤ → Bool → Bool
@@ -153,7 +162,7 @@ triggered value p q = shows (triggersOn value (parameter p 2) (parameter p 3) q)
 unfoldable pub thresholdTrigger : ℤ → List ℤ → Bool → BlockWords
 thresholdTrigger ax p q = triggered (actualOf ax (parameter p 0) (parameter p 1)) p q
 
--- 14 comparator: "on actual Ax minus actual Ay"
+-- 14 comparator: "on actual Ax minus actual Ay"; "subtracts two held values"
 unfoldable pub compared : ℤ → ℤ → List ℤ → Bool → BlockWords
 compared ax ay p q =
     triggered (actualOf ax (parameter p 0) (parameter p 1) -ℤ actualOf ay (parameter p 0) (parameter p 1)) p q
@@ -165,6 +174,10 @@ multiplexed en s1 s2 p = three (cond en (parameter p (2 * digit s1 + digit s2)) 
 -- 16 differential trigger: "as 13, Off = On + Δ": of A, B, On, Δ the parameters of 13
 abbrev pub withOff : List ℤ → List ℤ
 withOff p = parameter p 0 ∷ parameter p 1 ∷ parameter p 2 ∷ (parameter p 2 +ℤ parameter p 3) ∷ []
+
+-- 19 analog amplifier: "its output is the actual value"; the parameters are A, B
+unfoldable pub amplified : ℤ → List ℤ → BlockWords
+amplified ax p = three (actualOf ax (parameter p 0) (parameter p 1)) (pos 0) (pos 0)
 
 -- ---- the counter
 

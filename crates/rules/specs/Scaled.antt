@@ -1,9 +1,8 @@
 -- What an input, a gain and an offset may be: the function counts on it, the rule does not. Not part of what a reader has to believe.
-use lib.IntN.{ℤ, pos}
-use Rattle.words.specs.Signed.{minus, Between}
-use Rattle.kinds.specs.Kinds.{In, sixteen}
+use lib.IntN.{ℤ}
+use Rattle.kinds.specs.Kinds.{In, gain, offset, sixteen}
 
-pub record Scaled (input gain offset : ℤ) : Type 0 where
-  pub input-is : In sixteen input
-  pub gain-is : Between (minus 1000) (pos 1000) gain
-  pub offset-is : Between (minus 10000) (pos 10000) offset
+pub record Scaled (x a b : ℤ) : Type 0 where
+  pub input-is : In sixteen x
+  pub gain-is : In gain a
+  pub offset-is : In offset b

@@ -1,18 +1,31 @@
-// What a block that triggers on an analog value becomes: kinds 13, 14 and 16.
+// What a block becomes that takes an actual value: kinds 13, 14, 16 and 19.
 ghost use mathlib.Core.Path.{_≡_};
 ghost use lib.IntN.{pos};
 ghost use Rattle.words.specs.Signed.{Between, minus};
-ghost use Rattle.kinds.specs.Kinds.{parameter};
-ghost use Rattle.rules.specs.Rules.{actualOf, triggersOn, triggered, thresholdTrigger, compared, withOff};
+ghost use Rattle.kinds.specs.Kinds.{In, sixteen, parameter};
+ghost use Rattle.rules.specs.Rules.{heldTo, actualOf, triggersOn, triggered, thresholdTrigger, compared, withOff, amplified};
 ghost use Rattle.rules.specs.Scaled.{Scaled};
 use rules::BlockWords;
 
-// The actual value of an analog input: input · A / 100 toward zero, plus B.
+// A number held to 16 bits: below them the least, above them the greatest.
+fn held(x: i32) -> i32
+    ensures { λ r. ⌜ r ≡ heldTo sixteen x ⌝ }
+{
+    if x < -32768 {
+        return -32768;
+    }
+    if 32767 < x {
+        return 32767;
+    }
+    x
+}
+
+// The actual value of an analog input: input · A / 100 toward zero, plus B, then held.
 pub fn actual(input: i32, gain: i32, offset: i32) -> i32
     requires { ⌜ Scaled input gain offset ⌝ }
-    ensures { λ r. ⌜ (r ≡ actualOf input gain offset) × Between (minus 337680) (pos 337680) r ⌝ }
+    ensures { λ r. ⌜ (r ≡ actualOf input gain offset) × In sixteen r ⌝ }
 {
-    input * gain / 100 + offset
+    held(input * gain / 100 + offset)
 }
 
 // Q of a block that triggers on a value, by On, Off and Q of the last scan.
@@ -54,6 +67,14 @@ pub fn comparator(ax: i32, ay: i32, params: [i32; 4], q: bool) -> BlockWords
     let x = actual(ax, params[0], params[1]);
     let y = actual(ay, params[0], params[1]);
     triggered_by(x - y, params, q)
+}
+
+// Kind 19, analog amplifier: its output is actual Ax.
+pub fn amplifier(ax: i32, params: [i32; 4]) -> BlockWords
+    requires { ⌜ Scaled ax (parameter params 0) (parameter params 1) ⌝ }
+    ensures { λ r. ⌜ r ≡ amplified ax params ⌝ }
+{
+    rules::three_of(actual(ax, params[0], params[1]), 0, 0)
 }
 
 // Kind 16, differential trigger: its parameters as kind 13 takes them, with Off for Δ.

@@ -3,7 +3,7 @@ use mathlib.Core.Path.{_∙_, ap}
 use Prim.Native.Nat.{ℕ}
 use Rattle.kinds.specs.Kinds.{kindOf, kinds}
 use Rattle.blocks.specs.Blocks.{rules, workedOut}
-use Rattle.blocks.proofs.Ready.{scaling, indexing, no-rule}
+use Rattle.blocks.proofs.Ready.{scaling, gaining, indexing, no-rule}
 use native.Mathlib.Omega.{arith}
 use borrow.Author.Needs.{needs}
 use Rattle.blocks.proofs.worked_out.Statement.{statement}
@@ -74,6 +74,10 @@ stairs-block-requires : tie.Need-stairs-block-requires
 stairs-block-requires c κs =
     let f = c .before .pre .0 in
     (f .time-is, f .warning-is, omega (arith, f .warning-is, f .dark-is), c .before .pre .2)
+
+amplify-block-requires : tie.Need-amplify-block-requires
+unfolding kindOf kinds
+amplify-block-requires c κs = (c .before .pre .1, gaining (c .before .pre .0) (ap (λ (n : ℕ). kindOf n .parameters) (c .match .keys19)))
 
 nothing-requires : tie.Need-nothing-requires
 nothing-requires c κs = search needs
@@ -151,7 +155,11 @@ unfolding workedOut rules
 returns-18 c = rw (c .before .match .keys18) (c .stairs-block .ensures)
 
 returns-19 : tie.Need-returns-19
-returns-19 c = rw (no-rule (c .before .before .args .kind) (c .before .match .rest)) (c .nothing .ensures)
+unfolding workedOut rules
+returns-19 c = rw (c .before .match .keys19) (c .amplify-block .ensures)
+
+returns-20 : tie.Need-returns-20
+returns-20 c = rw (no-rule (c .before .before .args .kind) (c .before .match .rest)) (c .nothing .ensures)
 
 pub worked-out-spec : {M : Type 1} → statement M
 worked-out-spec =
@@ -177,6 +185,7 @@ worked-out-spec =
     trigger-block-requires-2
     count-block-requires
     stairs-block-requires
+    amplify-block-requires
     nothing-requires
     returns
     returns-2
@@ -196,4 +205,5 @@ worked-out-spec =
     returns-16
     returns-17
     returns-18
-    returns-19)
+    returns-19
+    returns-20)
