@@ -109,9 +109,9 @@ for rule in s/,1500,100,/,1500,99,/ s/,1500,100,/,1499,100,/ s/,20,2,/,20,1,/ 's
     shows_otherwise highbay "$rule"
 done
 
-# an end of the fine gauge that Off reaches above, and one that it does not reach below; a gain and an offset that are less; a leak that is told later
+# an end of the fine gauge that Off reaches above, and one that it does not reach below; a gain and an offset that are less; a jump that is told later
 for rule in s/,20000,15000,/,20000,12767,/ s/,-20000,-12768,/,-20000,-12769,/ s/,1000,-5000,/,999,-5000,/ s/,1000,-5000,/,1000,-5001,/ s/,300,300,/,310,310,/; do
-    shows_otherwise sprinkler "$rule"
+    shows_otherwise rainwater "$rule"
 done
 
 # an intake that starts with the power, and one that the chain does not stop

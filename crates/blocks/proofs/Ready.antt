@@ -1,7 +1,7 @@
 -- What a block's rule counts on follows from its kind. Assumes nothing.
 use mathlib.Core.Path.{_≡_, refl}
 use mathlib.Core.Bool.{Bool, true, false}
-use mathlib.Core.List.{List}
+use mathlib.Core.List.{List, _∷_}
 use Prim.Native.Nat.{ℕ, zero, suc, _≤_, _<_}
 use native.Mathlib.Omega.{arith}
 use borrow.Author.Tests.{eqb-true, eqb-false, leb-true, leb-false}
@@ -9,7 +9,7 @@ use lib.Dec.{eqb, leb}
 use lib.ListN.{getD, List·getD-eq-default}
 use lib.IntN.{pos}
 use Rattle.words.specs.Signed.{Between}
-use Rattle.kinds.specs.Kinds.{Range, _to_, kindOf, parameter, scaled, gained, indexed}
+use Rattle.kinds.specs.Kinds.{Range, _to_, kindOf, parameter, gain, offset, indexed}
 use Rattle.blocks.specs.declared.Prepared.{Prepared}
 use Rattle.blocks.specs.Blocks.{idle, rules, workedOut}
 use Rattle.blocks.specs.Fit.{Fit, Scaling}
@@ -19,13 +19,9 @@ module _ {kind : ℕ} {p : Prepared} (f : Fit kind p) where
   param-at : (rs : List Range) → kindOf kind .parameters ≡ rs → (j : ℕ) → j < 3 → Between (getD rs j (pos 0 to pos 0) .least) (getD rs j (pos 0 to pos 0) .greatest) (parameter (p .params) j)
   param-at rs e j h = rw e at (f .params-are j (omega arith) (λ is. h))
 
-  -- kinds 13, 14 and 16; kind 19
-  pub scaling : kindOf kind .parameters ≡ scaled → Scaling p
-  unfolding scaled
-  scaling e = record { gain-is = param-at scaled e 0 (omega arith); offset-is = param-at scaled e 1 (omega arith) }
-
-  pub gaining : kindOf kind .parameters ≡ gained → Scaling p
-  gaining e = record { gain-is = param-at gained e 0 (omega arith); offset-is = param-at gained e 1 (omega arith) }
+  -- kinds 13, 14, 16 and 19: A and B come first
+  pub scaling : (rs : List Range) → kindOf kind .parameters ≡ gain ∷ offset ∷ rs → Scaling p
+  scaling rs e = record { gain-is = param-at _ e 0 (omega arith); offset-is = param-at _ e 1 (omega arith) }
 
   pub indexing : kindOf kind .parameters ≡ indexed → Between (pos 1) (pos 8) (parameter (p .params) 1)
   unfolding indexed

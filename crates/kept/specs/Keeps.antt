@@ -91,7 +91,7 @@ Labelled none = Unit {0}
 Labelled (some x) = Label x
 
 pub record BlockKeeps (limits : Limits) (n : ℕ) (b : Block) : Type 0 where
-  -- "Sixteen kinds", and 17 and 18
+  -- "Sixteen kinds", and 17 to 19
   pub kind-low : 1 ≤ b .kind
   pub kind-high : b .kind < length kinds
   -- "Option bit 0 is retentive, allowed on kinds 9 to 12; other bits are 0"; 17 and 18 "may be retentive"

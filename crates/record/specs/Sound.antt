@@ -13,7 +13,7 @@ use Rattle.record.specs.Places.{Place, phase, done, mark, elapsed, input
 -- ---- the range of each word
 
 -- "block words that the block's kind has no use for 0, .. bits 0 or 1, Ta 0..T in ticks, register 0..255, .. multiplexer outputs
--- −32,768..32,767": by the table of kinds, and the ticks set
+-- −32,768..32,767"; an amplifier's likewise, "A sound count is 0..999,999": by the table of kinds, and the ticks set
 abbrev pub blockRange : Line → ℕ → Range
 blockRange line zero = outputRange (kindOf (line .kind))
 blockRange line (suc zero) = rememberedRange (kindOf (line .kind))

@@ -9,7 +9,9 @@ use lib.Signed.{leZ, ltZ}
 use Rattle.words.specs.Signed.{minus, Between}
 use Rattle.words.proofs.Sides.{leZ-true, leZ-false, ltZ-true, ltZ-false, le-leZ, lt-leZ, le-ltZ, lt-ltZ}
 use Rattle.words.proofs.Bounds.{between-sides, sides-between}
-use Rattle.kinds.specs.Kinds.{In, sixteen, parameter}
+use Rattle.words.proofs.Ranges.{wider}
+use Rattle.kinds.specs.Kinds.{In, kinds, kindOf, scaled, sixteen, parameter, allowed}
+use Rattle.kinds.proofs.Allowed.{param-in}
 use Rattle.rules.specs.Rules.{shows, heldTo, unheldOf, actualOf, triggersOn, triggered, thresholdTrigger}
 
 -- ---- a number held to 16 bits
@@ -104,7 +106,12 @@ module _ (x on off : ℤ) (q : Bool) (i : Between (minus 32767) (pos 32766) on) 
           let u = leZ-false off on e in
           rw (at-most on (heldTo sixteen x), at-most on x, above-same on x (sides-between (omega arith) (omega arith)), above-same off x (sides-between (omega arith) (omega arith)))
 
--- so kind 13 does, with any parameters that it may have; and kind 16, worked out as 13, where its On + Δ is of 16 bits
+-- so kind 16, worked out as 13, does where its On + Δ is of 16 bits
 pub trigger-same : (ax : ℤ) (p : List ℤ) (q : Bool) → Between (minus 32767) (pos 32766) (parameter p 2) → In sixteen (parameter p 3) → thresholdTrigger ax p q ≡ triggered (unheldOf ax (parameter p 0) (parameter p 1)) p q
 unfolding thresholdTrigger actualOf
 trigger-same ax p q i j = ap shows (triggers-same (unheldOf ax (parameter p 0) (parameter p 1)) (parameter p 2) (parameter p 3) q i j)
+
+-- and kind 13 with any parameters that it may have
+pub threshold-same : (ax : ℤ) (p : List ℤ) (q : Bool) → allowed 13 p ≡ true → thresholdTrigger ax p q ≡ triggered (unheldOf ax (parameter p 0) (parameter p 1)) p q
+unfolding kindOf kinds scaled
+threshold-same ax p q a = trigger-same ax p q (wider (param-in 13 p a 2 (omega arith)) tt tt) (wider (param-in 13 p a 3 (omega arith)) tt tt)

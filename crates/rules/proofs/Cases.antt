@@ -1,5 +1,5 @@
--- What the starred cases do not say of a rule: for every Ta and e, and with In 0; that a rise sets the off-delay; the gain; and where an
--- actual value is held. At the last three an edit of the definition is refused. Assumes nothing.
+-- What the starred cases do not say of a rule: for every Ta and e, and with In 0; that a rise sets the off-delay. And the gain, and where an
+-- actual value is held, said here too: an edit of a definition is refused at these, since it proves its own crate alone. Assumes nothing.
 use mathlib.Core.Path.{_≡_, refl}
 use mathlib.Core.Bool.{Bool, true, false, not, _&&_}
 use mathlib.Core.List.{[], _∷_}

@@ -7,15 +7,20 @@ ghost use Rattle.rules.specs.Rules.{heldTo, actualOf, triggersOn, triggered, th
 ghost use Rattle.rules.specs.Scaled.{Scaled};
 use rules::BlockWords;
 
+// The ends of an actual value.
+const LEAST: i32 = -32768;
+
+const GREATEST: i32 = 32767;
+
 // A number held to 16 bits: below them the least, above them the greatest.
 fn held(x: i32) -> i32
     ensures { λ r. ⌜ r ≡ heldTo sixteen x ⌝ }
 {
-    if x < -32768 {
-        return -32768;
+    if x < LEAST {
+        return LEAST;
     }
-    if 32767 < x {
-        return 32767;
+    if GREATEST < x {
+        return GREATEST;
     }
     x
 }

@@ -1,9 +1,9 @@
 -- `blocks::worked_out` meets its contract: each arm has the rule of its kind. Assumes nothing.
 use mathlib.Core.Path.{_∙_, ap}
 use Prim.Native.Nat.{ℕ}
-use Rattle.kinds.specs.Kinds.{kindOf, kinds}
+use Rattle.kinds.specs.Kinds.{kindOf, kinds, scaled}
 use Rattle.blocks.specs.Blocks.{rules, workedOut}
-use Rattle.blocks.proofs.Ready.{scaling, gaining, indexing, no-rule}
+use Rattle.blocks.proofs.Ready.{scaling, indexing, no-rule}
 use native.Mathlib.Omega.{arith}
 use borrow.Author.Needs.{needs}
 use Rattle.blocks.proofs.worked_out.Statement.{statement}
@@ -53,19 +53,19 @@ unfolding kindOf kinds
 shift-block-requires c κs = indexing (c .before .pre .0) (ap (λ (n : ℕ). kindOf n .parameters) (c .match .keys12))
 
 trigger-block-requires : tie.Need-trigger-block-requires
-unfolding kindOf kinds
-trigger-block-requires c κs = (c .before .pre .1, scaling (c .before .pre .0) (ap (λ (n : ℕ). kindOf n .parameters) (c .match .keys13)))
+unfolding kindOf kinds scaled
+trigger-block-requires c κs = (c .before .pre .1, scaling (c .before .pre .0) _ (ap (λ (n : ℕ). kindOf n .parameters) (c .match .keys13)))
 
 compare-block-requires : tie.Need-compare-block-requires
-unfolding kindOf kinds
-compare-block-requires c κs = (c .before .pre .1, scaling (c .before .pre .0) (ap (λ (n : ℕ). kindOf n .parameters) (c .match .keys14)))
+unfolding kindOf kinds scaled
+compare-block-requires c κs = (c .before .pre .1, scaling (c .before .pre .0) _ (ap (λ (n : ℕ). kindOf n .parameters) (c .match .keys14)))
 
 choice-block-requires : tie.Need-choice-block-requires
 choice-block-requires c κs = search needs
 
 trigger-block-requires-2 : tie.Need-trigger-block-requires-2
-unfolding kindOf kinds
-trigger-block-requires-2 c κs = (c .before .pre .1, scaling (c .before .pre .0) (ap (λ (n : ℕ). kindOf n .parameters) (c .match .keys16)))
+unfolding kindOf kinds scaled
+trigger-block-requires-2 c κs = (c .before .pre .1, scaling (c .before .pre .0) _ (ap (λ (n : ℕ). kindOf n .parameters) (c .match .keys16)))
 
 count-block-requires : tie.Need-count-block-requires
 count-block-requires c κs = search needs
@@ -77,7 +77,7 @@ stairs-block-requires c κs =
 
 amplify-block-requires : tie.Need-amplify-block-requires
 unfolding kindOf kinds
-amplify-block-requires c κs = (c .before .pre .1, gaining (c .before .pre .0) (ap (λ (n : ℕ). kindOf n .parameters) (c .match .keys19)))
+amplify-block-requires c κs = (c .before .pre .1, scaling (c .before .pre .0) _ (ap (λ (n : ℕ). kindOf n .parameters) (c .match .keys19)))
 
 nothing-requires : tie.Need-nothing-requires
 nothing-requires c κs = search needs

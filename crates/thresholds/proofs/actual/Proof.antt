@@ -1,5 +1,4 @@
 -- `thresholds::actual` meets its contract: each step fits 32 bits, and what is held is in 16. Assumes nothing.
-use mathlib.Core.Path.{_∙_}
 use Rattle.words.proofs.Locals.{back, back-to}
 use Rattle.words.proofs.Ranges.{whole, ranged}
 use Rattle.rules.specs.Rules.{unheldOf, actualOf}

@@ -1,5 +1,4 @@
 -- `thresholds::held` meets its contract: each test reads the number back from its bits. Assumes nothing.
-use Rattle.words.specs.Signed.{minus}
 use Rattle.words.proofs.Locals.{back}
 use Rattle.thresholds.proofs.held.Statement.{statement}
 use Rattle.thresholds.proofs.held.Tie as tie
