@@ -5,10 +5,12 @@ use mathlib.Core.List.{List, [], _∷_}
 use Prim.Native.Nat.{ℕ, zero, suc, _+_, _-_, _*_, _/_, _%_, _^_, _≤_, _<_}
 use native.Mathlib.Nat.{sub-self, not-suc-le-zero, le-of-suc-le-suc}
 use native.Mathlib.Omega.{arith}
+use lib.Bits.{bitAnd}
 use lib.Dec.{eqb, leb}
 use lib.ListN.{getD}
 use borrow.Author.Tests.{ne-eqb, eqb-true, leb-true}
 use Rattle.words.proofs.Bounds.{and-true}
+use Rattle.words.proofs.Masks.{low-bit}
 use Rattle.refusals.specs.declared.Limits.{Limits}
 use Rattle.connectors.specs.Connectors.{member, takes, inverts, namesBlock, least, greatest, connectorAt, connectorsAt, wrong, later, anyOf}
 use Rattle.connectors.specs.Named.{sixOrSeven, lower}
@@ -60,13 +62,13 @@ takes-above spot k h = member-above 9 k (takes spot) (takes-up spot) h
 takes-bit : ℕ → ℕ
 takes-bit i = cond (member (i % 10) (takes (i / 10))) 1 0
 
-pub takes-bits : (spot class : ℕ) → spot < 5 → class < 10 → eqb (1089478683656287 / 2 ^ (spot * 10 + class) % 2) 1 ≡ member class (takes spot)
+pub takes-bits : (spot class : ℕ) → spot < 5 → class < 10 → eqb (bitAnd (1089478683656287 / 2 ^ (spot * 10 + class)) 1) 1 ≡ member class (takes spot)
 unfolding takes-bit takes member
 takes-bits p k h g =
     let l : p * 10 + k < 50 = omega arith in
     let d : (p * 10 + k) / 10 ≡ p = omega arith in
     let m : (p * 10 + k) % 10 ≡ k = omega arith in
-    ap (λ (x : ℕ). eqb x 1) (same-at 50 (λ i. 1089478683656287 / 2 ^ i % 2) takes-bit refl (p * 10 + k) l)
+    ap (λ (x : ℕ). eqb x 1) (low-bit _ ∙ same-at 50 (λ i. 1089478683656287 / 2 ^ i % 2) takes-bit refl (p * 10 + k) l)
     ∙ one-test (member ((p * 10 + k) % 10) (takes ((p * 10 + k) / 10)))
     ∙ ap (λ (x : ℕ). member x (takes ((p * 10 + k) / 10))) m
     ∙ ap (λ (y : ℕ). member k (takes y)) d
@@ -74,13 +76,13 @@ takes-bits p k h g =
 plain-bit : ℕ → ℕ
 plain-bit i = cond (not (inverts i)) 1 0
 
-pub plain-bits : (class : ℕ) → class < 10 → eqb (929 / 2 ^ class % 2) 1 ≡ not (inverts class)
+pub plain-bits : (class : ℕ) → class < 10 → eqb (bitAnd (929 / 2 ^ class) 1) 1 ≡ not (inverts class)
 unfolding plain-bit inverts member
-plain-bits k h = ap (λ (x : ℕ). eqb x 1) (same-at 10 (λ i. 929 / 2 ^ i % 2) plain-bit refl k h) ∙ one-test (not (inverts k))
+plain-bits k h = ap (λ (x : ℕ). eqb x 1) (low-bit _ ∙ same-at 10 (λ i. 929 / 2 ^ i % 2) plain-bit refl k h) ∙ one-test (not (inverts k))
 
-pub least-bits : (class : ℕ) → class < 10 → 978 / 2 ^ class % 2 ≡ least class
+pub least-bits : (class : ℕ) → class < 10 → bitAnd (978 / 2 ^ class) 1 ≡ least class
 unfolding least
-least-bits k h = same-at 10 (λ i. 978 / 2 ^ i % 2) least refl k h
+least-bits k h = low-bit _ ∙ same-at 10 (λ i. 978 / 2 ^ i % 2) least refl k h
 
 -- a class that names a block: from 1 to n
 pub names-least : (k : ℕ) → namesBlock k ≡ true → least k ≡ 1

@@ -23,7 +23,7 @@ fn takes_class(spot: usize, class: usize) -> bool
     requires { ⌜ (spot < 5) × (class < 10) ⌝ }
     ensures { λ r. ⌜ r ≡ member class (takes spot) ⌝ }
 {
-    (TAKES >> (spot * 10 + class)) % 2 == 1
+    (TAKES >> (spot * 10 + class)) & 1 == 1
 }
 
 // Bit of a class, 9 to 0: whether it cannot be inverted.
@@ -37,7 +37,7 @@ fn wrongly_inverted(byte: usize, class: usize) -> bool
     if byte < 128 {
         return false;
     }
-    (PLAIN >> class) % 2 == 1
+    (PLAIN >> class) & 1 == 1
 }
 
 // The greatest number of a class that names no block.
@@ -68,7 +68,7 @@ fn out_of_range(limits: Limits, class: usize, number: usize) -> bool
     requires { ⌜ (class < 10) × (namesBlock class ≡ false) ⌝ }
     ensures { λ r. ⌜ ((n : ℕ) → r ≡ (ltb number (least class) || ltb (greatest limits n class) number)) ⌝ }
 {
-    if number < (LEAST >> class) % 2 {
+    if number < (LEAST >> class) & 1 {
         return true;
     }
     greatest_of(limits, class) < number
@@ -118,7 +118,7 @@ fn connected(
     requires { ⌜ (spot < 5) × (own ≤ 401) ⌝ }
     ensures { λ r. ⌜ r ≡ sixOrSeven (wrong limits spot own n (now (sorts .entry)) (record { class = byte; number = number })) (later own (record { class = byte; number = number })) ⌝ }
 {
-    let class = byte % 128;
+    let class = byte & 127;
     if 9 < class {
         return 6;
     }

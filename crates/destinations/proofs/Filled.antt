@@ -5,11 +5,13 @@ use native.Mathlib.Nat.{zero-add, add-zero, sub-zero}
 use mathlib.Core.Path.{_≡_, refl, sym, ap, _∙_}
 use mathlib.Core.Bool.{Bool, true, false, cond, _&&_}
 use mathlib.Core.List.{List, [], _∷_}
+use lib.Bits.{bitAnd}
 use lib.Dec.{eqb, ltb}
 use lib.ListN.{length, set, replicate, length-set, length-replicate, getD-replicate, List·getD-append, take, drop, length-take, length-drop}
 use lib.Seq.{getD-set-same, getD-set-other, ext-getD, getD-append-add, getD-take, getD-drop}
 use lib.IntN.{ℤ, pos}
 use borrow.Author.Tests.{ltb-true, ltb-false, eqb-true, eqb-false, lt-ltb, le-ltb}
+use Rattle.words.proofs.Masks.{low-seven-bits}
 use Rattle.connectors.proofs.Laws.{same-at}
 use Rattle.fields.specs.Fields.{classAt, numberIn}
 use Rattle.decoding.specs.Decoded.{Row, rowAt}
@@ -24,9 +26,9 @@ use Rattle.destinations.specs.Slots.{base, slot, filled, Aimed, at-q, at
 -- ---- slots
 
 -- seven bits for each class
-pub base-bits : (class : ℕ) → class < 5 → 24738463744 / 2 ^ (class * 7) % 128 ≡ base class
+pub base-bits : (class : ℕ) → class < 5 → bitAnd (24738463744 / 2 ^ (class * 7)) 127 ≡ base class
 unfolding base
-base-bits class h = same-at 5 (λ k. 24738463744 / 2 ^ (k * 7) % 128) base refl class h
+base-bits class h = low-seven-bits _ ∙ same-at 5 (λ k. 24738463744 / 2 ^ (k * 7) % 128) base refl class h
 
 pub class-below : (class number : ℕ) → Aimed class number → class < 5
 class-below class number (at-q e a b) = omega arith

@@ -28,7 +28,7 @@ fn slot_of(class: usize, number: usize) -> usize
     requires { ⌜ Aimed class number ⌝ }
     ensures { λ r. ⌜ (r ≡ slot class number) × (r < 156) ⌝ }
 {
-    (BASES >> (class * 7)) % 128 + (number - 1)
+    ((BASES >> (class * 7)) & 127) + (number - 1)
 }
 
 // What the row at a place carries.

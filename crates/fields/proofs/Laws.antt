@@ -3,9 +3,11 @@ use mathlib.Core.Path.{_≡_, refl, sym, ap, _∙_, subst}
 use mathlib.Core.Bool.{Bool, true, false, not, _&&_}
 use Prim.Native.Nat.{ℕ, zero, suc, _+_, _*_, _/_, _%_, _^_, _≤_, _<_}
 use native.Mathlib.Omega.{arith}
+use lib.Bits.{bitAnd}
 use lib.Dec.{eqb, leb, ltb}
 use mathlib.Core.List.{List}
 use borrow.Author.Tests.{ltb-false, eqb-false, lt-leb}
+use Rattle.words.proofs.Masks.{low-three-bits, low-seven-bits}
 use Rattle.refusals.proofs.Tests.{or-false}
 use Rattle.refusals.specs.Modest.{Modest}
 use Rattle.refusals.specs.declared.Limits.{Limits}
@@ -58,13 +60,13 @@ mark-below limits (suc (suc (suc zero))) m l d = let b = d .high in let x = l .a
 mark-below limits (suc (suc (suc (suc zero)))) m l d = let b = d .high in let x = l .am in let a = d .low in omega arith
 mark-below limits (suc (suc (suc (suc (suc k))))) m l d = let a = d .low in let b = d .high in let z : ⊥ = omega arith in absurd z
 
-pub base-bits : (class : ℕ) → class < 5 → 24872550400 / 2 ^ (class * 7) % 128 ≡ base class
+pub base-bits : (class : ℕ) → class < 5 → bitAnd (24872550400 / 2 ^ (class * 7)) 127 ≡ base class
 unfolding base
-base-bits k h = same-at 5 (λ i. 24872550400 / 2 ^ (i * 7) % 128) base refl k h
+base-bits k h = low-seven-bits _ ∙ same-at 5 (λ i. 24872550400 / 2 ^ (i * 7) % 128) base refl k h
 
-pub spot-bits : (class : ℕ) → class < 5 → 13972 / 2 ^ (class * 3) % 8 ≡ spotOf class
+pub spot-bits : (class : ℕ) → class < 5 → bitAnd (13972 / 2 ^ (class * 3)) 7 ≡ spotOf class
 unfolding spotOf
-spot-bits k h = same-at 5 (λ i. 13972 / 2 ^ (i * 3) % 8) spotOf refl k h
+spot-bits k h = low-three-bits _ ∙ same-at 5 (λ i. 13972 / 2 ^ (i * 3) % 8) spotOf refl k h
 
 pub spot-above : (class : ℕ) → 4 < class → spotOf class ≡ 4
 unfolding spotOf

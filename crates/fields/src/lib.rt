@@ -93,7 +93,7 @@ fn spot_of(class: usize) -> usize
     if 4 < class {
         return 4;
     }
-    (SPOTS >> (class * 3)) % 8
+    (SPOTS >> (class * 3)) & 7
 }
 
 // Whether there is no such destination.
@@ -114,7 +114,7 @@ pub fn mark_of(limits: Limits, class: usize, number: usize) -> usize
     requires { ⌜ Modest limits × (unknown limits class number ≡ false) ⌝ }
     ensures { λ r. ⌜ (r ≡ mark class number) × (r < 156) ⌝ }
 {
-    (BASES >> (class * 7)) % 128 + (number - 1)
+    ((BASES >> (class * 7)) & 127) + (number - 1)
 }
 
 // The number of a row. The blocks before it, and which of them are analog; the marks of the destinations used.

@@ -77,7 +77,7 @@ pub fn width_at(inputs: usize, j: usize) -> usize
     if 2 + 2 * inputs <= j {
         return 4;
     }
-    if j % 2 == 0 {
+    if j & 1 == 0 {
         return 1;
     }
     2

@@ -213,9 +213,9 @@ fn shifted_by(down: bool, input: bool, register: u32) -> u32
 {
     let one = digit_of(input);
     if down {
-        return register / 2 + 128 * one;
+        return (register >> 1) + 128 * one;
     }
-    (2 * register + one) % 256
+    (2 * register + one) & 255
 }
 
 // The register after the scan.
@@ -243,7 +243,7 @@ pub fn shift_register(
 {
     let next = stepped_to(trg & !was, down, input, register);
     let place = j - 1;
-    given((next >> place) % 2 == 1, trg, next)
+    given((next >> place) & 1 == 1, trg, next)
 }
 
 // Kind 15, multiplexer: 0 without En, else V1 to V4 by S1 and S2.

@@ -5,6 +5,7 @@ use mathlib.Core.List.{List, _++_}
 use Prim.Native.Nat.{ℕ, zero, suc, _+_, _-_, _*_, _%_, _≤_, _<_}
 use native.Mathlib.Nat.{div-one}
 use native.Mathlib.Omega.{arith}
+use lib.Bits.{bitAnd}
 use lib.Dec.{eqb, ltb}
 use lib.ListN.{length, set, drop}
 use lib.Seq.{sets}
@@ -13,6 +14,7 @@ use mir.Syntax.{w32}
 use mir.Val.{ofZ}
 use Rattle.words.specs.Bytes.{bytesOf}
 use Rattle.words.specs.Signed.{minus}
+use Rattle.words.proofs.Masks.{low-byte}
 use Rattle.digits.specs.declared.Number.{Number}
 use Rattle.digits.specs.Numbers.{valueOf}
 use Rattle.rows.specs.Columns.{saidIn, packed, widths, numbersBytes, nth}
@@ -44,9 +46,9 @@ module _ (l : List ℕ) (to width bits : ℕ) (v : ℤ) (is : bits ≡ ofZ w32 v
   unfolding packed
   pack-is k e = rw (e, is)
 
-  pub pack-one : width ≡ 1 → set l to (bits % 256) ≡ sets l to (packed width v)
+  pub pack-one : width ≡ 1 → set l to (bitAnd bits 255) ≡ sets l to (packed width v)
   unfolding bytesOf
-  pack-one e = sym (rw div-one) ∙ pack-is 1 e
+  pack-one e = rw low-byte (sym (rw div-one) ∙ pack-is 1 e)
 
 pub width-some : (i j w : ℕ) → w ≡ widthAt i j → (w ≡ 4 → ⊥) → (w ≡ 2 → ⊥) → (w ≡ 1 → ⊥) → ⊥
 unfolding widthAt

@@ -286,7 +286,7 @@ pub fn put_packed(circuit: &mut [u8], to: usize, width: usize, n: Number)
         return;
     }
     if width == 1 {
-        circuit[to] = (bits % 256) as u8;
+        circuit[to] = (bits & 255) as u8;
     }
 }
 

@@ -32,7 +32,7 @@ pub fn value_from(rec: &[i32], class: usize, number: usize) -> i32
     requires { ⌜ number < 65536 ⌝ }
     ensures { λ r. ⌜ r ≡ valueFrom (now (rec .entry)) (connector class number) ⌝ }
 {
-    let k = class % 128;
+    let k = class & 127;
     match k {
         1 => record::input_at(rec, number),
         4 => record::flag_at(rec, number),
@@ -49,7 +49,7 @@ fn plain_bit(rec: &[i32], unused: bool, class: usize, number: usize) -> bool
     requires { ⌜ number < 65536 ⌝ }
     ensures { λ r. ⌜ r ≡ plainBit (now (rec .entry)) unused (connector class number) ⌝ }
 {
-    let k = class % 128;
+    let k = class & 127;
     if k == 0 {
         return unused;
     }

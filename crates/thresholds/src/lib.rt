@@ -1,6 +1,7 @@
 // What a block becomes that takes an actual value: kinds 13, 14, 16 and 19.
 ghost use mathlib.Core.Path.{_≡_};
 ghost use lib.IntN.{pos};
+ghost use lib.Signed.{quotZ};
 ghost use Rattle.words.specs.Signed.{Between, minus};
 ghost use Rattle.kinds.specs.Kinds.{In, sixteen, parameter};
 ghost use Rattle.rules.specs.Rules.{heldTo, actualOf, triggersOn, triggered, thresholdTrigger, compared, withOff, amplified};
@@ -25,12 +26,25 @@ fn held(x: i32) -> i32
     x
 }
 
+// A number by 100 is number · MULTIPLIER, shifted down by SHIFT, and below zero one more.
+const MULTIPLIER: i64 = 1374389535;
+
+const SHIFT: i64 = 37;
+
+// A number by 100, toward zero, without division, in the same steps for every number.
+fn hundredth(x: i32) -> i32
+    ensures { λ r. ⌜ r ≡ quotZ x (pos 100) ⌝ }
+{
+    let below = words::word_of(x < 0);
+    ((x as i64 * MULTIPLIER) >> SHIFT) as i32 + below
+}
+
 // The actual value of an analog input: input · A / 100 toward zero, plus B, then held.
 pub fn actual(input: i32, gain: i32, offset: i32) -> i32
     requires { ⌜ Scaled input gain offset ⌝ }
     ensures { λ r. ⌜ (r ≡ actualOf input gain offset) × In sixteen r ⌝ }
 {
-    held(input * gain / 100 + offset)
+    held(hundredth(input * gain) + offset)
 }
 
 // Q of a block that triggers on a value, by On, Off and Q of the last scan.

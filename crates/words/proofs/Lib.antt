@@ -5,3 +5,4 @@ pub mod Ranges
 pub mod Written
 pub mod Complement
 pub mod Bits
+pub mod Masks

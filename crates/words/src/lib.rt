@@ -85,8 +85,8 @@ pub fn put_two(bytes: &mut [u8], at: usize, n: usize)
     requires { ⌜ at + 2 ≤ length (now bytes) ⌝ }
     ensures { λ r. ⌜ now (bytes .exit) ≡ sets (now (bytes .entry)) at (bytesOf 2 n) ⌝ }
 {
-    bytes[at] = (n / 256 % 256) as u8;
-    bytes[at + 1] = (n % 256) as u8;
+    bytes[at] = ((n >> 8) & 255) as u8;
+    bytes[at + 1] = (n & 255) as u8;
 }
 
 // Four bytes at a place become those of a number.
@@ -94,10 +94,10 @@ pub fn put_four(bytes: &mut [u8], at: usize, n: u32)
     requires { ⌜ at + 4 ≤ length (now bytes) ⌝ }
     ensures { λ r. ⌜ now (bytes .exit) ≡ sets (now (bytes .entry)) at (bytesOf 4 n) ⌝ }
 {
-    bytes[at] = (n / 16777216 % 256) as u8;
-    bytes[at + 1] = (n / 65536 % 256) as u8;
-    bytes[at + 2] = (n / 256 % 256) as u8;
-    bytes[at + 3] = (n % 256) as u8;
+    bytes[at] = ((n >> 24) & 255) as u8;
+    bytes[at + 1] = ((n >> 16) & 255) as u8;
+    bytes[at + 2] = ((n >> 8) & 255) as u8;
+    bytes[at + 3] = (n & 255) as u8;
 }
 
 // Two bytes at a place become those of a signed number of 16 bits.
@@ -105,7 +105,7 @@ pub fn put_signed_two(bytes: &mut [u8], at: usize, x: i32)
     requires { ⌜ (at + 2 ≤ length (now bytes)) × SFits w16 x ⌝ }
     ensures { λ r. ⌜ now (bytes .exit) ≡ sets (now (bytes .entry)) at (bytesOf 2 (ofZ w16 x)) ⌝ }
 {
-    put_two(bytes, at, (bits_of(x) % 65536) as usize);
+    put_two(bytes, at, (bits_of(x) & 65535) as usize);
 }
 
 // Four bytes at a place become those of a signed number.

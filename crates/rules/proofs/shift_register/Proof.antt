@@ -1,4 +1,5 @@
 -- `rules::shift_register` meets its contract: the output is the bit of the register after the step. Assumes nothing.
+use Rattle.words.proofs.Masks.{low-bit}
 use Rattle.rules.specs.Rules.{shiftRegister}
 use borrow.Author.Needs.{needs}
 use Rattle.rules.proofs.shift_register.Statement.{statement}
@@ -18,7 +19,7 @@ given-requires c κs = search needs
 
 returns : tie.Need-returns
 unfolding shiftRegister
-returns c = rw (← c .before .stepped-to .ensures .0) (c .given .ensures)
+returns c = rw (← c .before .stepped-to .ensures .0) (rw (low-bit _) at (c .given .ensures))
 
 pub shift-register-spec : {M : Type 1} → statement M
 shift-register-spec =

@@ -1,5 +1,6 @@
 -- By width: the bytes are those of the number's bits. Assumes nothing.
 use mathlib.Core.Path.{_∙_}
+use Rattle.words.proofs.Masks.{low-byte}
 use Rattle.digits.specs.Numbers.{valueOf}
 use Rattle.splitting.proofs.Packs.{pack-is, pack-one, width-some}
 use borrow.Author.Needs.{needs}
@@ -39,7 +40,7 @@ returns-2 c =
     ∙ pack-is (args .circuit .now) (args .to) (args .width) (bits-of .result) (valueOf (args .n)) (bits-of .ensures) 2 (c .before .before .before .before .if2 .taken)
 
 cast-circuit : tie.Need-cast-circuit
-cast-circuit c = search needs
+cast-circuit c = simp low-byte (search needs)
 
 slice-write-circuit : tie.Need-slice-write-circuit
 slice-write-circuit c = search needs

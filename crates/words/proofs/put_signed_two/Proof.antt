@@ -6,6 +6,7 @@ use lib.IntN.{ℤ, pos, negsuc}
 use mir.Syntax.{w16, w32}
 use mir.Val.{SFits, ofZ}
 use Rattle.words.proofs.Locals.{back}
+use Rattle.words.proofs.Masks.{low-two-bytes}
 use borrow.Author.Needs.{needs}
 use Rattle.words.proofs.put_signed_two.Statement.{statement}
 use Rattle.words.proofs.put_signed_two.Tie as tie
@@ -18,7 +19,7 @@ bits-of-requires : tie.Need-bits-of-requires
 bits-of-requires c κs = search needs
 
 cast-put-two : tie.Need-cast-put-two
-cast-put-two c = search needs
+cast-put-two c = simp low-two-bytes (search needs)
 
 put-two-requires : tie.Need-put-two-requires
 put-two-requires c κs = search needs
@@ -30,7 +31,7 @@ returns : tie.Need-returns
 returns c =
     let was = c .before .before .before .before .before .before in
     let bits = simp (back (was .fits .x)) at (c .before .before .before .bits-of .ensures) in
-    let low = ap (λ (n : ℕ). n % 65536) bits ∙ lower (was .args .x) (was .pre .1) in
+    let low = low-two-bytes _ ∙ ap (λ (n : ℕ). n % 65536) bits ∙ lower (was .args .x) (was .pre .1) in
     rw (← low) (c .before .before .put-two .ensures)
 
 pub put-signed-two-spec : {M : Type 1} → statement M

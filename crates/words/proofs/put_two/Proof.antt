@@ -4,18 +4,19 @@ use native.Mathlib.Numerals.{add-one}
 use native.Mathlib.Omega.{arith}
 use lib.ListN.{length-set}
 use Rattle.words.specs.Bytes.{bytesOf}
+use Rattle.words.proofs.Masks.{low-byte}
 use borrow.Author.Needs.{needs}
 use Rattle.words.proofs.put_two.Statement.{statement}
 use Rattle.words.proofs.put_two.Tie as tie
 
 cast-bytes : tie.Need-cast-bytes
-cast-bytes c = search needs
+cast-bytes c = simp low-byte (search needs)
 
 slice-write-bytes : tie.Need-slice-write-bytes
 slice-write-bytes c = search needs
 
 cast-bytes-2 : tie.Need-cast-bytes-2
-cast-bytes-2 c = search needs
+cast-bytes-2 c = simp low-byte (search needs)
 
 add-bytes : tie.Need-add-bytes
 add-bytes c = search needs
@@ -28,7 +29,7 @@ same-length c = search needs
 
 returns : tie.Need-returns
 unfolding bytesOf
-returns c = rw (add-one, div-one)
+returns c = simp low-byte (rw (add-one, div-one))
 
 pub put-two-spec : {M : Type 1} → statement M
 put-two-spec =
