@@ -1,7 +1,7 @@
--- A number of 32 bits, multiplied and shifted down at 64: each step fits, whatever the multiplier and the shift. With ours it is the
--- hundredth, but one less below zero. Assumes nothing.
+-- A number of 32 bits, multiplied and shifted down at 64: each step fits, for any multiplier up to 2 ^ 31 and any shift from 33 on. With
+-- ours it is the hundredth toward zero, but one less below zero. Assumes nothing.
 use mathlib.Core.Path.{_≡_, ap, ap₂, _∙_}
-use Prim.Native.Nat.{ℕ, zero, suc, _+_, _*_, _/_, _^_, _≤_}
+use Prim.Native.Nat.{ℕ, zero, suc, _+_, _-_, _*_, _/_, _^_, _≤_}
 use native.Mathlib.Nat.{add-zero, mul-le-mul, div-le-of-le-mul}
 use native.Mathlib.Omega.{arith}
 use lib.Dec.{lit<}
@@ -15,7 +15,7 @@ use Rattle.words.proofs.Bounds.{abs-le, abs-fits, mul-fits, add-fits}
 use Rattle.words.proofs.Locals.{read, back}
 use Rattle.words.proofs.Ranges.{between-reach, one-fits}
 
--- ---- any multiplier up to 2 ^ 31, any shift from 33 on
+-- ---- any multiplier, any shift
 
 quotient-small : (a d : ℕ) → a ≤ 2 ^ 62 → 2 ^ 33 ≤ d → a / d ≤ 2 ^ 29
 quotient-small a d h l = div-le-of-le-mul d (omega arith)
@@ -71,8 +71,8 @@ multiplier = 1374389535
 abbrev divisor : ℕ
 divisor = 2 ^ 37
 
-product-below : (n : ℕ) → negsuc n *ℤ pos multiplier ≡ negsuc (n * multiplier + 1374389534)
-product-below n = let e : suc n * multiplier ≡ suc (n * multiplier + 1374389534) = omega arith in ap (λ (k : ℕ). negℤ (pos k)) e
+product-below : (n : ℕ) → negsuc n *ℤ pos multiplier ≡ negsuc (n * multiplier + (multiplier - 1))
+product-below n = let e : suc n * multiplier ≡ suc (n * multiplier + (multiplier - 1)) = omega arith in ap (λ (k : ℕ). negℤ (pos k)) e
 
 one-more : (q : ℕ) → negsuc q +ℤ pos 1 ≡ negℤ (pos q)
 one-more q = same (negsuc q +ℤ pos 1) (negℤ (pos q)) (omega (arith, add-sides (negsuc q) (pos 1), neg-over (pos q), neg-under (pos q)))
@@ -84,6 +84,6 @@ hundredth-is {x = pos n} f =
     rw (le-ltZ (pos n) (pos 0) (omega arith), add-zero, q)
 hundredth-is {x = negsuc n} f =
     let h = f .sfits in
-    let k : ℕ = n * multiplier + 1374389534 in
+    let k : ℕ = n * multiplier + (multiplier - 1) in
     let q : k / divisor ≡ suc n / 100 = omega arith in
     rw (product-below n) (one-more (k / divisor) ∙ ap (λ (k : ℕ). negℤ (pos k)) q)

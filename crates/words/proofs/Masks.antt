@@ -1,4 +1,4 @@
--- A mask of lower bits is a remainder. Assumes nothing.
+-- A mask of lower bits is a remainder, at the masks of the code, which rewriting looks for. Assumes nothing.
 use mathlib.Core.Path.{_≡_}
 use Prim.Native.Nat.{ℕ, _%_}
 use lib.Bits.{bitAnd, and-mask}

@@ -146,11 +146,11 @@ pub fn bit_of(x: i32) -> bool
     x != 0
 }
 
-// A bit as a word.
+// A bit as a word, with no branch.
 pub fn word_of(b: bool) -> i32
     ensures { λ r. ⌜ r ≡ wordOf b ⌝ }
 {
-    if b { 1 } else { 0 }
+    b as i32
 }
 
 // A word that is not negative as a count.
