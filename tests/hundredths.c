@@ -33,13 +33,17 @@ static int32_t shift_less_by_one(int32_t product, int32_t offset) {
     return held(shifted(product, multiplier, divisor / 2) + (product < 0) + offset);
 }
 
-static int32_t rounded_down(int32_t product, int32_t offset) { return held(shifted(product, multiplier, divisor) + offset); }
+static int32_t one_more_left_out(int32_t product, int32_t offset) { return held(shifted(product, multiplier, divisor) + offset); }
 
-static int32_t one_more_above_zero_too(int32_t product, int32_t offset) {
+static int32_t one_more_at_zero_too(int32_t product, int32_t offset) {
     return held(shifted(product, multiplier, divisor) + (product <= 0) + offset);
 }
 
-static int32_t sign_lost(int32_t product, int32_t offset) { return held(abs(product / HUNDRED) + offset); }
+static int32_t size_alone(int32_t product, int32_t offset) { return held(abs(product / HUNDRED) + offset); }
+
+static int32_t rounded_down(int32_t product, int32_t offset) {
+    return held(product / HUNDRED - (product % HUNDRED < 0) + offset);
+}
 
 static int32_t rounded(int32_t product, int32_t offset) {
     return held((product + (product < 0 ? -HUNDRED / 2 : HUNDRED / 2)) / HUNDRED + offset);
@@ -57,9 +61,10 @@ static const struct {
 } ways[] = {
     {"multiplier_less_by_one", multiplier_less_by_one},
     {"shift_less_by_one", shift_less_by_one},
+    {"one_more_left_out", one_more_left_out},
+    {"one_more_at_zero_too", one_more_at_zero_too},
+    {"size_alone", size_alone},
     {"rounded_down", rounded_down},
-    {"one_more_above_zero_too", one_more_above_zero_too},
-    {"sign_lost", sign_lost},
     {"rounded", rounded},
     {"fraction_of_the_sum_dropped", fraction_of_the_sum_dropped},
     {"cut_to_32_bits", cut_to_32_bits},
@@ -84,7 +89,7 @@ static void make_amplifiers(unsigned n) {
 }
 
 static void compare(unsigned k, int32_t input) {
-    const int32_t product = input * gains[k], expected = held(product / HUNDRED + offsets[k]);
+    const int32_t product = input * gains[k], expected = actual_of(input, gains[k], offsets[k]);
     const int32_t given = wrong != NULL ? wrong(product, offsets[k]) : record[SERIFDOVE_BLOCK_OUTPUT(k)];
     tried++;
     negative += product < 0;
@@ -132,13 +137,13 @@ static void try_gains(int32_t least, int32_t greatest) {
 /* Some gains of either sign, with offsets of either sign, which bring more products between the ends. */
 static void try_some_gains(void) {
     static const int32_t some[] = {1, 2, 3, 7, 10, 33, 49, 50, 51, 64, 99, 100, 101, 128, 333, 999, 1000},
-                         shifts[] = {-GREATEST_OFFSET, -1, 0, GREATEST_OFFSET};
+                         some_offsets[] = {-GREATEST_OFFSET, -1, 0, GREATEST_OFFSET};
     unsigned n = 0;
     for (size_t i = 0; i < sizeof some / sizeof *some; i++)
-        for (size_t j = 0; j < sizeof shifts / sizeof *shifts; j++)
+        for (size_t j = 0; j < sizeof some_offsets / sizeof *some_offsets; j++)
             for (int sign = -1; sign <= 1; sign += 2) {
                 gains[++n] = sign * some[i];
-                offsets[n] = shifts[j];
+                offsets[n] = some_offsets[j];
             }
     make_amplifiers(n);
     try_inputs(LEAST_VALUE, GREATEST_VALUE);
