@@ -1,9 +1,14 @@
 // Judges each circuit that an argument names, and prints the name and the answer, a line to each, and on a second line the answer for the
 // series 0BA6. An accepted one it also plays: a cold start and 551 scans in turns, of which it shows the first two and the last two, and a
 // latch that must be refused; and a cold start and nine scans, a tick apart, of which it shows Q1.
+#![tactic(auto)]
+
 ghost use Rattle.std.specs.Prelude.{◌≡◌, length};
 
 use report::ROOM;
+use std::env::{Env, FillError};
+use std::rt::Files;
+use std::{fs, io, str};
 
 // The most blocks, and the words of the record that has room for them.
 const BLOCKS: usize = 400;
@@ -52,91 +57,74 @@ fn scan_once(circuit: &[u8], rec: &mut [i32], outs: &mut [i32], scan: u32) {
 
 // The scans from one number up to another.
 fn scans(circuit: &[u8], rec: &mut [i32], outs: &mut [i32], from: u32, to: u32) {
-    let mut scan = from;
-    while scan < to {
+    for scan in from..to {
         scan_once(circuit, rec, outs, scan);
-        scan += 1;
     }
 }
 
 // ---- what is shown
 
 // Words on a line.
-fn show_words(words: &[i32]) {
-    let mut i = 0;
-    while i < words.len() {
-        report::text(b" ");
-        report::word(words[i]);
-        i += 1;
+fn show_words(rt: &impl Print, words: &[i32]) -> io::Result<()> {
+    for word in words {
+        print!(rt; " {word}")?;
     }
+    Ok(())
 }
 
 // The name, the scan, the outputs, and the three words of block 1.
-fn show(path: &[u8], scan: usize, rec: &[i32], outs: &[i32]) {
-    report::text(path);
-    report::text(b" scan ");
-    report::number(scan);
-    show_words(outs);
+fn show(rt: &impl Print, path: &str, scan: usize, rec: &[i32], outs: &[i32]) -> io::Result<()> {
+    print!(rt; "{path} scan {scan}")?;
+    show_words(rt, outs)?;
     let own = record::words_of(rec, 1);
-    report::text(b" block 1");
-    report::text(b" ");
-    report::word(own.output);
-    report::text(b" ");
-    report::word(own.remembered);
-    report::text(b" ");
-    report::word(own.number);
-    report::text(b"\n");
+    println!(rt; " block 1 {} {} {}", own.output, own.remembered, own.number)
 }
 
 // Plays an accepted circuit on a record of its length.
-fn played(path: &[u8], circuit: &[u8], rec: &mut [i32]) {
+fn played(rt: &impl Print, path: &str, circuit: &[u8], rec: &mut [i32]) -> io::Result<()> {
     let mut outs = [7i32; 28];
     scan::cold_start(circuit, rec);
     scan_once(circuit, rec, &mut outs, 1);
-    show(path, 1, &rec[..], &outs);
+    show(rt, path, 1, &rec[..], &outs)?;
     scan_once(circuit, rec, &mut outs, 2);
-    show(path, 2, &rec[..], &outs);
+    show(rt, path, 2, &rec[..], &outs)?;
     scans(circuit, rec, &mut outs, 3, 551);
-    show(path, 550, &rec[..], &outs);
+    show(rt, path, 550, &rec[..], &outs)?;
     scan_once(circuit, rec, &mut outs, 551);
-    show(path, 551, &rec[..], &outs);
+    show(rt, path, 551, &rec[..], &outs)?;
     let inputs = reading(552, 1001);
-    report::text(path);
-    report::text(b" analog 1001 ");
-    report::line(scan::latch(circuit, rec, &inputs, 65535));
+    print!(rt; "{path} analog 1001 ")?;
+    report::line(rt, scan::latch(circuit, rec, &inputs, 65535))
 }
 
 // A scan, a tick behind the one before, and its Q1.
-fn short_scan(circuit: &[u8], rec: &mut [i32], scan: u32) {
+fn short_scan(rt: &impl Print, circuit: &[u8], rec: &mut [i32], scan: u32) -> io::Result<()> {
     let mut outs = [7i32; 28];
     let inputs = short_reading(scan);
     scan_of(circuit, rec, &mut outs, &inputs, 1);
-    report::text(b" ");
-    report::word(outs[0]);
+    print!(rt; " {}", outs[0])
 }
 
 // Nine of them.
-fn nine_scans(circuit: &[u8], rec: &mut [i32]) {
-    let mut scan = 1;
-    while scan < 10 {
-        short_scan(circuit, rec, scan);
-        scan += 1;
+fn nine_scans(rt: &impl Print, circuit: &[u8], rec: &mut [i32]) -> io::Result<()> {
+    for scan in 1..10 {
+        short_scan(rt, circuit, rec, scan)?;
     }
+    Ok(())
 }
 
 // The name, and nine scans from a cold start on.
-fn played_shortly(path: &[u8], circuit: &[u8], rec: &mut [i32]) {
+fn played_shortly(rt: &impl Print, path: &str, circuit: &[u8], rec: &mut [i32]) -> io::Result<()> {
     scan::cold_start(circuit, rec);
-    report::text(path);
-    report::text(b" nine scans: Q1");
-    nine_scans(circuit, rec);
-    report::text(b"\n");
+    print!(rt; "{path} nine scans: Q1")?;
+    nine_scans(rt, circuit, rec)?;
+    println!(rt)
 }
 
 // Both.
-fn played_twice(path: &[u8], circuit: &[u8], rec: &mut [i32]) {
-    played(path, circuit, rec);
-    played_shortly(path, circuit, rec);
+fn played_twice(rt: &impl Print, path: &str, circuit: &[u8], rec: &mut [i32]) -> io::Result<()> {
+    played(rt, path, circuit, rec)?;
+    played_shortly(rt, path, circuit, rec)
 }
 
 // Room for the longest record. The `ensures` gives only the length, which lending a part of the array needs.
@@ -147,65 +135,73 @@ fn longest() -> [i32; 1364]
 }
 
 // And one of n blocks, none above 400.
-fn played_with(path: &[u8], circuit: &[u8], n: usize) {
+fn played_with(rt: &impl Print, path: &str, circuit: &[u8], n: usize) -> io::Result<()> {
     if n <= BLOCKS {
         let mut room = longest();
-        played_twice(path, circuit, &mut room[..164 + 3 * n]);
+        played_twice(rt, path, circuit, &mut room[..164 + 3 * n])?;
     }
+    Ok(())
 }
 
 // ---- the arguments
 
 // The answer for the series, under the name.
-fn answered_for_0ba6(path: &[u8], circuit: &[u8]) {
+fn answered_for_0ba6(rt: &impl Print, path: &str, circuit: &[u8]) -> io::Result<()> {
     if ROOM <= circuit.len() {
-        return;
+        return Ok(());
     }
-    report::text(path);
-    report::text(b" 0BA6 ");
-    report::line(circuit::check_profile(circuit));
+    print!(rt; "{path} 0BA6 ")?;
+    report::line(rt, circuit::check_profile(circuit))
 }
 
 // A circuit, under its name.
-fn judged(path: &[u8], circuit: &[u8]) {
-    let answer = report::judged(circuit);
-    answered_for_0ba6(path, circuit);
+fn judged(rt: &impl Print, path: &str, circuit: &[u8]) -> io::Result<()> {
+    let answer = report::judged(rt, circuit)?;
+    answered_for_0ba6(rt, path, circuit)?;
     if answer.number == 0 {
-        played_with(path, circuit, answer.first);
+        played_with(rt, path, circuit, answer.first)?;
     }
+    Ok(())
 }
 
 // The circuit in a file.
-fn run(path: &[u8]) {
-    report::text(path);
-    report::text(b" ");
-    let fd = os::open_read(path);
-    if fd < 0 {
-        os::fail(path);
-        return;
-    }
+fn run(rt: &(impl Files + Print + Eprint), path: &str) -> io::Result<()> {
+    print!(rt; "{path} ")?;
+    let mut file = match fs::open(rt, path) {
+        Ok(file) => file,
+        Err(error) => return eprintln!(rt; "{path}: {error}"),
+    };
     let mut bytes = [0u8; ROOM];
-    let n = io::read_full(fd, &mut bytes);
-    libc::close(fd);
-    judged(path, &bytes[..n]);
+    let n = report::read_full(&mut file, &mut bytes)?;
+    judged(rt, path, &bytes[..n])
 }
 
-// The circuit that argument i names.
-fn run_arg(i: usize) {
-    let mut path = io::buffer();
-    let n = os::arg(i, &mut path);
-    run(&path[..n]);
+// The circuit that argument i names, and whether there is one.
+fn run_arg(rt: &(impl Env + Files + Print + Eprint), i: usize) -> io::Result<bool> {
+    let mut path = [0u8; 4096];
+    let n = match rt.arg(i, &mut path) {
+        Ok(n) => n,
+        // A name that is too long names no file, as an empty one.
+        Err(FillError::TooLong) => 0,
+        Err(FillError::NotPresent) => return Ok(false),
+    };
+    let Ok(path) = str::from_utf8(&path[..n]) else {
+        return Err(io::Error::new(io::ErrorKind::InvalidInput, "a name is not UTF-8"));
+    };
+    run(rt, path)?;
+    Ok(true)
 }
 
 // All of them.
-fn run_all(n: usize) {
-    let mut i = 1;
-    while i < n {
-        run_arg(i);
-        i += 1;
+fn run_all(rt: &(impl Env + Files + Print + Eprint)) -> io::Result<()> {
+    for i in 1..usize::MAX {
+        if !run_arg(rt, i)? {
+            break;
+        }
     }
+    Ok(())
 }
 
-fn main() {
-    run_all(os::arg_count());
+fn main(rt: HostRuntime) -> io::Result<()> {
+    run_all(&rt)
 }

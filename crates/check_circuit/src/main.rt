@@ -1,6 +1,9 @@
 // Reads a circuit from standard input and prints the four numbers of check's answer. With the words --series 0BA6 it prints those of the answer
 // for that series, and says whether the circuit fits.
-use libc::STDIN_FILENO;
+#![tactic(auto)]
+
+use std::env::{Env, FillError};
+use std::io;
 
 // Whether two words are the same.
 fn same(word: &[u8], other: &[u8]) -> bool {
@@ -15,33 +18,36 @@ fn same(word: &[u8], other: &[u8]) -> bool {
     true
 }
 
+// Whether there is an argument of this number.
+fn has_argument(rt: &impl Env, k: usize) -> bool {
+    !matches!(rt.arg(k, &mut []), Err(FillError::NotPresent))
+}
+
 // Whether the argument of this number is this word.
-fn argument_is(k: usize, expected: &[u8]) -> bool {
-    let mut word = io::buffer();
-    let n = os::arg(k, &mut word);
-    same(&word[..n], expected)
+fn argument_is(rt: &impl Env, k: usize, expected: &[u8]) -> bool {
+    let mut word = [0u8; 4096];
+    match rt.arg(k, &mut word) {
+        Ok(n) => same(&word[..n], expected),
+        Err(_) => false,
+    }
 }
 
 // For the series that the second argument names.
-fn for_series() {
-    if argument_is(2, b"0BA6") {
-        report::judged_from(STDIN_FILENO, true);
-        return;
+fn for_series(rt: &(impl Env + Input + Print)) -> io::Result<()> {
+    if argument_is(rt, 2, b"0BA6") {
+        return report::judged_from(rt, true);
     }
-    report::text(b"there is no such series; expected is 0BA6\n");
+    println!(rt; "there is no such series; expected is 0BA6")
 }
 
-fn main() {
-    let count = os::arg_count();
-    if count < 2 {
-        report::judged_from(STDIN_FILENO, false);
-        return;
+fn main(rt: HostRuntime) -> io::Result<()> {
+    if !has_argument(&rt, 1) {
+        return report::judged_from(&rt, false);
     }
-    if count == 3 {
-        if argument_is(1, b"--series") {
-            for_series();
-            return;
+    if has_argument(&rt, 2) && !has_argument(&rt, 3) {
+        if argument_is(&rt, 1, b"--series") {
+            return for_series(&rt);
         }
     }
-    report::text(b"expected is no word, or --series 0BA6\n");
+    println!(rt; "expected is no word, or --series 0BA6")
 }

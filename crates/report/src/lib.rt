@@ -1,62 +1,40 @@
 // What the programs read and print: a circuit, the four numbers of an answer on one line, words.
+#![tactic(auto)]
+
+ghost use Rattle.std.specs.Io.{ReadsAtMost};
+
 use decoding::Head;
-use libc::STDOUT_FILENO;
 use refusals::Answer;
+use std::io;
+use std::io::Read;
 
 // The most bytes that a program takes, and one more, so that a longer input shows.
 const MOST: usize = 65536;
 
 pub const ROOM: usize = 65537;
 
-// Bytes as they are.
-pub fn text(bytes: &[u8]) {
-    io::write_all(STDOUT_FILENO, bytes);
-}
-
-// A number.
-pub fn number(n: usize) {
-    io::print_decimal(STDOUT_FILENO, n as u64);
-}
-
-// A signed word.
-pub fn word(x: i32) {
-    if x < 0 {
-        text(b"-");
-        io::print_decimal(STDOUT_FILENO, 4294967296 - words::bits_of(x) as u64);
-        return;
-    }
-    io::print_decimal(STDOUT_FILENO, words::bits_of(x) as u64);
-}
-
 // The four numbers of an answer on one line.
-pub fn line(a: Answer) {
-    number(a.number);
-    text(b" ");
-    number(a.place);
-    text(b" ");
-    number(a.first);
-    text(b" ");
-    number(a.second);
-    text(b"\n");
+pub fn line(rt: &impl Print, a: Answer) -> io::Result<()> {
+    println!(rt; "{} {} {} {}", a.number, a.place, a.first, a.second)
 }
 
 // Whether a circuit has more bytes than a program takes; that is then printed.
-fn is_too_long(bytes: &[u8]) -> bool {
+fn is_too_long(rt: &impl Print, bytes: &[u8]) -> io::Result<bool> {
     if bytes.len() <= MOST {
-        return false;
+        return Ok(false);
     }
-    text(b"too long\n");
-    true
+    println!(rt; "too long")?;
+    Ok(true)
 }
 
 // Judges a circuit and prints the answer, or that it is too long: number 1 then, which no accepted circuit has.
-pub fn judged(bytes: &[u8]) -> Answer {
-    if is_too_long(bytes) {
-        return refusals::refused_at(1, 0);
+pub fn judged(rt: &impl Print, bytes: &[u8]) -> io::Result<Answer> {
+    if is_too_long(rt, bytes)? {
+        return Ok(refusals::refused_at(1, 0));
     }
     let answer = circuit::check(bytes);
-    line(answer);
-    answer
+    line(rt, answer)?;
+    Ok(answer)
 }
 
 // ---- the series 0BA6: whether a circuit fits, and if not which field stands in the way
@@ -72,47 +50,46 @@ const TO_M: usize = 2;
 const TO_AM: usize = 4;
 
 // The name of a destination, as Q17.
-fn destination(class: usize, k: usize) {
+fn destination(rt: &impl Print, class: usize, k: usize) -> io::Result<()> {
     if 2 < class {
-        text(b"A");
+        print!(rt; "A")?;
     }
     if class % 2 == 1 {
-        text(b"Q");
+        print!(rt; "Q{k}")
     } else {
-        text(b"M");
+        print!(rt; "M{k}")
     }
-    number(k);
 }
 
 // The last one of a class that the series has.
-fn last_of(class: usize) {
-    destination(class, fields::limit_of(refusals::older(), class));
+fn last_of(rt: &impl Print, class: usize) -> io::Result<()> {
+    destination(rt, class, fields::limit_of(refusals::older(), class))
 }
 
 // All of a class that the series has, as Q1 to Q16, or AQ1 and AQ2.
-fn all_of(class: usize) {
-    destination(class, 1);
+fn all_of(rt: &impl Print, class: usize) -> io::Result<()> {
+    destination(rt, class, 1)?;
     if fields::limit_of(refusals::older(), class) == 2 {
-        text(b" and ");
+        print!(rt; " and ")?;
     } else {
-        text(b" to ");
+        print!(rt; " to ")?;
     }
-    last_of(class);
+    last_of(rt, class)
 }
 
 // The destination of the row at a place, and which there are.
-fn destination_at(bytes: &[u8], place: usize) {
+fn destination_at(rt: &impl Print, bytes: &[u8], place: usize) -> io::Result<()> {
     if bytes.len() < ROW_HEAD {
-        return;
+        return Ok(());
     }
     if bytes.len() - ROW_HEAD < place {
-        return;
+        return Ok(());
     }
     let class = words::byte_at(bytes, place + 3);
-    text(b"its destination is ");
-    destination(class, words::byte_at(bytes, place + 4));
-    text(b"; 0BA6 has ");
-    all_of(class);
+    print!(rt; "its destination is ")?;
+    destination(rt, class, words::byte_at(bytes, place + 4))?;
+    print!(rt; "; 0BA6 has ")?;
+    all_of(rt, class)
 }
 
 // The number of the block that begins at a place, 0 where none does.
@@ -128,79 +105,91 @@ fn block_at(offsets: &[usize; 400], place: usize) -> usize {
 }
 
 // The block or the row at a place.
-fn field_at(place: usize, head: Head, offsets: &[usize; 400]) {
+fn field_at(rt: &impl Print, place: usize, head: Head, offsets: &[usize; 400]) -> io::Result<()> {
     if place < head.start {
-        text(b"block ");
-        number(block_at(offsets, place));
+        print!(rt; "block {}", block_at(offsets, place))?;
     } else {
-        text(b"row ");
-        number((place - head.start) / ROW_FIELD + 1);
+        print!(rt; "row {}", (place - head.start) / ROW_FIELD + 1)?;
     }
-    text(b" at byte ");
-    number(place);
-    text(b": ");
+    print!(rt; " at byte {place}: ")
 }
 
 // What stands in the way.
-fn misfit(bytes: &[u8], answer: Answer, head: Head, offsets: &[usize; 400]) {
+fn misfit(
+    rt: &impl Print,
+    bytes: &[u8],
+    answer: Answer,
+    head: Head,
+    offsets: &[usize; 400],
+) -> io::Result<()> {
     let place = answer.place;
     if answer.number == 4 {
-        text(b"the header says ");
-        number(head.n);
-        text(b" blocks; 0BA6 has at most ");
-        number(refusals::older().blocks);
-        return;
+        let (n, most) = (head.n, refusals::older().blocks);
+        return print!(rt; "the header says {n} blocks; 0BA6 has at most {most}");
     }
-    field_at(place, head, offsets);
+    field_at(rt, place, head, offsets)?;
     if answer.number == 9 {
-        destination_at(bytes, place);
-        return;
+        return destination_at(rt, bytes, place);
     }
-    text(b"a connector names a flag above ");
-    last_of(TO_M);
-    text(b" or ");
-    last_of(TO_AM);
+    print!(rt; "a connector names a flag above ")?;
+    last_of(rt, TO_M)?;
+    print!(rt; " or ")?;
+    last_of(rt, TO_AM)
 }
 
 // Whether it fits, in words.
-fn fitting(bytes: &[u8], answer: Answer) {
+fn fitting(rt: &impl Print, bytes: &[u8], answer: Answer) -> io::Result<()> {
     if answer.number == 0 {
-        text(b"fits 0BA6\n");
-        return;
+        return println!(rt; "fits 0BA6");
     }
     let kinds = kinds::table();
     let mut offsets = [0usize; 400];
     let judged = circuit::judge(refusals::ours(), &kinds, bytes, &mut offsets);
     if judged.number != 0 {
-        text(b"is refused for any series: ");
-        line(refusals::refused_at(judged.number as usize, judged.place));
-        return;
+        print!(rt; "is refused for any series: ")?;
+        let refused = refusals::refused_at(judged.number as usize, judged.place);
+        return line(rt, refused);
     }
-    text(b"does not fit 0BA6: ");
+    print!(rt; "does not fit 0BA6: ")?;
     let head = judged.head;
-    misfit(bytes, answer, head, &offsets);
-    text(b"\n");
+    misfit(rt, bytes, answer, head, &offsets)?;
+    println!(rt)
 }
 
 // Judges a circuit for the series and prints the answer, and whether it fits, or that it is too long.
-fn judged_for_0ba6(bytes: &[u8]) {
-    if is_too_long(bytes) {
-        return;
+fn judged_for_0ba6(rt: &impl Print, bytes: &[u8]) -> io::Result<()> {
+    if is_too_long(rt, bytes)? {
+        return Ok(());
     }
     let answer = circuit::check_profile(bytes);
-    line(answer);
-    fitting(bytes, answer);
+    line(rt, answer)?;
+    fitting(rt, bytes, answer)
 }
 
-// ---- standard input
+// ---- what is read
+
+// Reads until the buffer is full or the input ends, and answers how many bytes stand at its start.
+pub fn read_full(input: &mut impl Read, buffer: &mut [u8]) -> io::Result<usize>
+    ensures { ReadsAtMost result buffer.new }
+{
+    let mut done = 0;
+    while done < buffer.len() {
+        let n = input.read(&mut buffer[done..])?;
+        if n == 0 {
+            break;
+        }
+        done += n;
+    }
+    Ok(done)
+}
 
 // Reads a circuit to its end and prints the answer to it, or that for the series.
-pub fn judged_from(fd: i32, for_0ba6: bool) {
+pub fn judged_from(rt: &(impl Input + Print), for_0ba6: bool) -> io::Result<()> {
     let mut bytes = [0u8; ROOM];
-    let n = io::read_full(fd, &mut bytes);
+    let n = read_full(&mut rt.reader(), &mut bytes)?;
     if for_0ba6 {
-        judged_for_0ba6(&bytes[..n]);
-        return;
+        return judged_for_0ba6(rt, &bytes[..n]);
     }
-    judged(&bytes[..n]);
+    judged(rt, &bytes[..n])?;
+    Ok(())
 }
