@@ -1,4 +1,6 @@
 // The lowest number that holds for a block; 0 where none does. And the parameters of a block without a fault.
+#![tactic(auto)]
+
 ghost use Rattle.std.specs.Prelude.{◌≡◌, false, not, ◌&&◌, ◌+◌, ◌*◌, ◌≤◌, ◌<◌, eqb, ltb, length, get_or, pos};
 ghost use Rattle.words.specs.Signed.{Between};
 ghost use Rattle.kinds.specs.Kinds.{kind_of, known, content_length, parameter};

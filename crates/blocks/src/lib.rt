@@ -1,4 +1,6 @@
 // One block: its parameters made ready, and what its three words become, by kind.
+#![tactic(auto)]
+
 ghost use Rattle.std.specs.Prelude.{◌≡◌, true, ◌≤◌, ◌<◌, ◌^◌, pos};
 ghost use Rattle.words.specs.Signed.{Between, over};
 ghost use Rattle.kinds.specs.Kinds.{kind_of, parameter, allowed};
@@ -12,7 +14,7 @@ use kinds::{KindTable, Ticks};
 use rules::BlockWords;
 
 // A block's parameters, made ready: its settings T, T! and T!L in ticks, Off worked out.
-#[derive(Drop)]
+#[derive(Clone, Copy)]
 pub struct Prepared {
     pub time: Ticks,
     pub warning: Ticks,

@@ -1,10 +1,12 @@
 // Cells of a text by RFC 4180, handed out as start and length. Knows nothing of numbers or circuits.
+#![tactic(auto)]
+
 ghost use Rattle.std.specs.Prelude.{◌≡◌, false, cond, ◌+◌, ltb, length, get_or, drop};
 ghost use Rattle.cells.specs.Cells.{starts, ending, ending_size, stops, plain_size, quoted_size, finish, closed, cell_at};
 ghost use Rattle.cells.specs.Scans.{skip};
 
 // Where the text of a cell starts and how many bytes it has; whether it stands in quotes; how the cell ends; where the next begins.
-#[derive(Drop)]
+#[derive(Clone, Copy)]
 pub struct Cell {
     pub start: usize,
     pub size: usize,

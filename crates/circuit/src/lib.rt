@@ -1,4 +1,6 @@
 // Judges the bytes of a circuit in one pass. The arrays are locals of `judge` and of its caller, and are lent down.
+#![tactic(auto)]
+
 ghost use Rattle.std.specs.Prelude.{◌≡◌, false, List, ℕ, ◌≤◌, length, replicate};
 ghost use Rattle.kinds.specs.Table.{kinds_table};
 ghost use Rattle.refusals.specs.Limited.{older};
@@ -13,7 +15,7 @@ use kinds::KindTable;
 use refusals::{Answer, ENDED, Limits, OPENING};
 
 // Refusal number or 0, its place, and what is known of an accepted circuit.
-#[derive(Drop)]
+#[derive(Clone, Copy)]
 pub struct Outcome {
     pub number: u8,
     pub place: usize,

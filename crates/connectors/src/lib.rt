@@ -1,4 +1,6 @@
 // Connectors: class, number, and the block that is named. Refusals 6 and 7.
+#![tactic(auto)]
+
 ghost use Rattle.std.specs.Prelude.{◌≡◌, false, not, ◌&&◌, ◌||◌, ℕ, ◌+◌, ◌*◌, ◌≤◌, ◌<◌, length, leb, ltb};
 ghost use Rattle.connectors.specs.Connectors.{member, takes, inverts, least, greatest, names_block, connector_at, connectors_at, wrong, later, any_of};
 ghost use Rattle.connectors.specs.Named.{six_or_seven, named_number, lower as lower_of};

@@ -1,4 +1,6 @@
 // What an up/down counter becomes: kind 17.
+#![tactic(auto)]
+
 ghost use Rattle.std.specs.Prelude.{◌≡◌, true, false, ◌<◌, ◌^◌, pos};
 ghost use Rattle.kinds.specs.Kinds.{parameter};
 ghost use Rattle.rules.specs.Rules.{gives, tally, counts_on, up_down_counter};

@@ -1,4 +1,6 @@
 // One field: its number, and what is held after one without a fault. The arrays are lent; only `Head` goes by value.
+#![tactic(auto)]
+
 ghost use Rattle.std.specs.Prelude.{◌≡◌, Bool, List, ℕ, ◌+◌, ◌≤◌, length, pos};
 ghost use Rattle.words.specs.Signed.{Between};
 ghost use Rattle.kinds.specs.Table.{kinds_table};
@@ -13,7 +15,7 @@ use refusals::{AFTER_BLOCK, AMONG_BLOCKS, AMONG_ROWS, ENDED, Limits};
 
 // What the pass carries from field to field, beside the lent arrays: the stage, n of the header, blocks and rows so far, and where the
 // first row stands.
-#[derive(Drop)]
+#[derive(Clone, Copy)]
 pub struct Head {
     pub stage: u8,
     pub n: usize,
@@ -23,7 +25,7 @@ pub struct Head {
 }
 
 // The number of a field, where the next one begins, and what is carried there.
-#[derive(Drop)]
+#[derive(Clone, Copy)]
 pub struct Step {
     pub number: u8,
     pub next: usize,

@@ -1,4 +1,6 @@
 // Numbers in decimal digits, read and written, without division. Knows nothing of circuits.
+#![tactic(auto)]
+
 ghost use Rattle.std.specs.Prelude.{◌≡◌, ◌+◌, ◌-◌, ◌*◌, ◌/◌, ◌<◌, ◌≤◌, ◌%◌, min, true, length, drop, take, set};
 ghost use Rattle.std.proofs.lemmas.List.Edits.{sets};
 ghost use Rattle.std.specs.Int.{w32};
@@ -7,7 +9,7 @@ ghost use Rattle.digits.specs.Numbers.{digit, has_minus, number_of, size_in, las
 ghost use Rattle.digits.specs.Carried.{cut};
 
 // What the bytes of a cell say: whether they are a number of its range; if so, whether a minus stands before it, and its size.
-#[derive(Drop)]
+#[derive(Clone, Copy)]
 pub struct Number {
     pub ok: bool,
     pub negative: bool,

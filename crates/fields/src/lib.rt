@@ -1,4 +1,6 @@
 // The lowest number that holds for a header, a label, a row, the end field; 0 where none does.
+#![tactic(auto)]
+
 ghost use Rattle.std.specs.Prelude.{◌≡◌, false, ◌+◌, ◌≤◌, ◌<◌, length, get_or};
 ghost use Rattle.refusals.specs.Faults.{lowest};
 ghost use Rattle.refusals.specs.Modest.{Modest};

@@ -1,4 +1,6 @@
 // The one constant table by kind; settings, ticks, and the one conversion between them.
+#![tactic(auto)]
+
 ghost use Rattle.std.specs.Prelude.{◌≡◌, ◌+◌, ◌≤◌, ◌<◌, length, pos};
 ghost use Rattle.std.specs.Int.Signed.{le_z};
 ghost use Rattle.words.specs.Signed.{Between, over, bit_of};
@@ -7,11 +9,11 @@ ghost use Rattle.kinds.specs.Kinds.{known, kind_of, is_analog, content_length, i
 ghost use Rattle.kinds.specs.Table.{kinds_table, cell, Lent};
 
 // A number in its timebase: the base (0 seconds, 1 minutes, 2 hours), and the number.
-#[derive(Drop)]
+#[derive(Clone, Copy)]
 pub struct Setting(pub u8, pub u16);
 
 // A count of ticks of 10 ms.
-#[derive(Drop)]
+#[derive(Clone, Copy)]
 pub struct Ticks(pub u32);
 
 // The setting that two parameters of an allowed block are.

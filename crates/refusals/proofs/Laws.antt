@@ -1,5 +1,5 @@
 -- The first number that holds is the lowest where the numbers rise; our limits and those of the older series are modest. Assumes nothing.
-use mathlib.Core.Path.{◌≡◌, refl}
+use mathlib.Core.Path.{◌≡◌, refl, sym, subst, ◌∙◌}
 use mathlib.Core.Bool.{Bool, true, false, false≢true}
 use mathlib.Core.List.{List, [], ◌∷◌}
 use Prim.Native.Nat.{ℕ, ◌≤◌}
@@ -24,8 +24,12 @@ one_more : (f : Fault) (l : List Fault) → rises_from f.number l ≡ true → A
 one_more f l e below = go f.holds refl
   where
     go : (b : Bool) → f.holds ≡ b → AtMost (lowest (f ∷ l)) (f ∷ l)
-    go true h = rw h (λ x. omega arith, from_on f.number f.number l (omega arith) e)
-    go false h = rw h (λ x. absurd (false≢true x), below)
+    go true h =
+        let n : lowest (f ∷ l) ≡ f.number = rw h refl in
+        ((λ x. omega (arith, n)), subst (λ k. AtMost k l) (sym n) (from_on f.number f.number l (omega arith) e))
+    go false h =
+        let n : lowest (f ∷ l) ≡ lowest l = rw h refl in
+        ((λ x. absurd (false≢true (sym h ∙ x))), subst (λ k. AtMost k l) (sym n) below)
 
 least-from : (k : ℕ) (l : List Fault) → rises_from k l ≡ true → AtMost (lowest l) l
 least-from k [] e = tt

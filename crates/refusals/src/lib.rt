@@ -1,10 +1,12 @@
 // What every judging has in common: limits, stages, and the answer of four numbers.
+#![tactic(auto)]
+
 ghost use Rattle.std.specs.Prelude.{◌≡◌};
 ghost use Rattle.refusals.specs.Limited.{ours as ours_of, older as older_of};
 ghost use Rattle.refusals.specs.Answers.{refused_at, accepted_with};
 
 // The most blocks, and the greatest number of Q, AQ, M and AM.
-#[derive(Drop)]
+#[derive(Clone, Copy)]
 pub struct Limits {
     pub blocks: usize,
     pub q: usize,
@@ -15,7 +17,7 @@ pub struct Limits {
 
 // Refusal number or 0, place, first, second.
 #[repr(C)]
-#[derive(Drop)]
+#[derive(Clone, Copy)]
 pub struct Answer {
     pub number: usize,
     pub place: usize,

@@ -1,11 +1,13 @@
 // What a block's output and memory become, on plain values: the words of kinds 1 to 12, and of kind 15.
+#![tactic(auto)]
+
 ghost use Rattle.std.specs.Prelude.{◌≡◌, ◌≤◌, ◌<◌, ◌^◌};
 ghost use Rattle.rules.specs.Rules.{three, gives, shows, all_of, some_of, and_gate, and_edge, nand_gate, nand_edge, or_gate, nor_gate, xor_gate, not_gate, grown, fades, on_delay, off_delay, latching_relay, digit, shifted, stepped, shift_register, multiplexed};
 
 use kinds::Ticks;
 
 // A block's three words.
-#[derive(Drop)]
+#[derive(Clone, Copy)]
 pub struct BlockWords {
     pub output: i32,
     pub remembered: i32,

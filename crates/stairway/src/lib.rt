@@ -1,4 +1,6 @@
 // What a stairway switch becomes: kind 18. Ta is the ticks run; T, T! and T!L are `t`, `warning` and `dark`.
+#![tactic(auto)]
+
 ghost use Rattle.std.specs.Prelude.{◌≡◌, ◌≤◌, ◌<◌, ◌^◌};
 ghost use Rattle.rules.specs.Rules.{trg_and_running, stands, is_dark, dims, stairway_switch};
 

@@ -1,4 +1,6 @@
 // What a block becomes that takes an actual value: kinds 13, 14, 16 and 19.
+#![tactic(auto)]
+
 ghost use Rattle.std.specs.Prelude.{◌≡◌, pos};
 ghost use Rattle.std.specs.Int.Signed.{quot_z};
 ghost use Rattle.words.specs.Signed.{Between, minus};

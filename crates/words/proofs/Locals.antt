@@ -22,7 +22,7 @@ back = to_z-of_z
 
 -- of a call's signed result: `back-ok c.f.result c.f.ok`
 pub back-ok : (z : ℤ) → mag z < 2 ^ 31 → read w32 z ≡ z
-back-ok z h = to_z-of_z (record { sfits = h })
+back-ok z h = to_z-of_z {w = w32} {z = z} (record { sfits = h })
 
 -- a call's signed result is passed on or returned: `back_to c.f.result c.f.ok c.f.ensures`
 pub back_to : (z : ℤ) {y : ℤ} → mag z < 2 ^ 31 → z ≡ y → read w32 z ≡ y

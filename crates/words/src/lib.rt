@@ -1,4 +1,6 @@
 // Numbers: big-endian bytes of a slice, and signed words as bits, counts and amounts. Knows nothing of circuits.
+#![tactic(auto)]
+
 ghost use Rattle.std.specs.Prelude.{◌≡◌, ◌&&◌, ◌||◌, ◌+◌, ◌≤◌, ◌<◌, ◌^◌, length, get_or, pos, ◌≤ℤ◌};
 ghost use Rattle.std.proofs.lemmas.List.Edits.{sets};
 ghost use Rattle.std.specs.Int.{w16, w32};
