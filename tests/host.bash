@@ -6,7 +6,7 @@ work=$(mktemp -d) || exit 2
 trap 'rm -rf "$work"' EXIT
 
 warnings="-Wall -Wextra -Werror -pedantic"
-archive=${SERIFDOVE_ARCHIVE:-target/staticlib/libserifdove.a}
+archive=${SERIFDOVE_ARCHIVE:-crates/serifdove/out/libserifdove.a}
 oracle="oracle/check.c oracle/rules.c oracle/scan.c oracle/rows.c"
 if [ "$(uname -m)" = x86_64 ]; then
     emulated=no
@@ -47,9 +47,9 @@ need_cxx() {
     if [ "$emulated" = no ]; then need g++ g++; else need "$cxx" g++-x86-64-linux-gnu; fi
 }
 
-# is_stale FILE: it is missing, or older than a source
+# is_stale FILE: it is missing, or older than a source; a crate's out/ holds none
 is_stale() {
-    [ ! -f "$1" ] || [ -n "$(find crates crates.txt -newer "$1" -print -quit)" ]
+    [ ! -f "$1" ] || [ crates.txt -nt "$1" ] || [ -n "$(find crates -mindepth 2 -path 'crates/*/out' -prune -o -newer "$1" -print -quit)" ]
 }
 
 # What the proving of the archive prints, line by line. A script that shows progress has its own.
@@ -66,21 +66,21 @@ need_rt() {
 need_archive() {
     if [ -z "${SERIFDOVE_ARCHIVE:-}" ] && is_stale "$archive"; then
         need_rt archive
-        echo "host: rt staticlib serifdove"
-        rt staticlib serifdove 2>&1 </dev/null | tee "$work/archive" | show_progress
+        echo "host: rt lib, in crates/serifdove"
+        (cd crates/serifdove && rt lib) 2>&1 </dev/null | tee "$work/archive" | show_progress
         [ "${PIPESTATUS[0]}" -eq 0 ] || { cat "$work/archive" && exit 1; }
     fi
     [ -f "$archive" ] || { echo "host: there is no $archive" && exit 1; }
     echo "host: $archive, $("$cc" --version | head -n 1), emulated: $emulated"
 }
 
-# Makes the program check_circuit, likewise.
-program=target/bin/check_circuit
+# Makes the program check_circuit, likewise; `rt run` also runs it, here on no byte.
+program=crates/check_circuit/out/check_circuit
 need_program() {
     is_stale "$program" || return 0
     need_rt program
-    echo "host: rt check check_circuit"
-    rt check check_circuit >"$work/program" 2>&1 </dev/null || { cat "$work/program" && exit 1; }
+    echo "host: rt run, in crates/check_circuit"
+    (cd crates/check_circuit && rt run) >"$work/program" 2>&1 </dev/null || { cat "$work/program" && exit 1; }
     touch "$program"
 }
 

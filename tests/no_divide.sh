@@ -27,7 +27,7 @@ routines() {
 signs() {
     cat "$@" >/dev/null || exit 2
     perl -CSD -Mutf8 -0777 -ne '
-        s{"(?:\\.|[^"\\])*"|\x27(?:\\.|[^\x27\\])\x27|/\*.*?\*/|//[^\n]*|⌜.*?⌝|^(ghost use|#include) [^\n]*}{ $& =~ tr/\n//cdr }gmse;
+        s{"(?:\\.|[^"\\])*"|\x27(?:\\.|[^\x27\\])\x27|/\*.*?\*/|//[^\n]*|\b(?:requires|ensures)\*?(?: \w+)? (\{(?:[^{}]|(?1))*\})|^ghost use [^;]*;|^#include [^\n]*}{ $& =~ tr/\n//cdr }gmse;
         my $at = 0;
         for (split /\n/) { $at++; if (m{[/%]|\b(\w+_)?(div|rem)(_\w+)?\(}) { print "$ARGV:$at: $_\n"; $found = 1 } }
         END { exit !$found }' "$@"
@@ -77,15 +77,19 @@ passes_over routines "$work/small.o" "moves of memory"
 
 for line in 'let q = n / 100;' '(bits % 256) as u8' 'q /= 2;' 'q %= 2; // q % 2' 'let a = b/c; /* / */' 'n.div_euclid(100)' 'u32::wrapping_rem(n, 10)' \
     'std::num::checked_div_u32(n, 100)' 'f(b"//", n / 10)' "f(b'/', '\"', n % 10)"; do
-    printf 'fn small(n: u32) -> u32\n    ensures { λ r. ⌜ r ≡ n ⌝ }\n{\n    %s\n}\n' "$line" >"$work/small.rt"
+    printf 'fn small(n: u32) -> u32\n    requires { n ≡ n }\n    ensures equals { result ≡ f { x = n } }\n{\n    %s\n}\n' "$line" >"$work/small.rt"
     finds_in signs "$work/small.rt" "a line of code"
 done
 cat >"$work/small.rt" <<'CODE'
-ghost use Prim.Native.Nat.{_/_, _%_};
+ghost use Rattle.std.specs.Prelude.{
+    ◌/◌, ◌%◌,
+};
 // n / 100, n % 100
 fn small(n: u32) -> u32
-    ensures { λ r. ⌜ (r ≡ n / 100)
-        × (n % 100 ≡ 0) ⌝ }
+    requires { n / 100 ≡ f { x = n / 100 } n }
+    ensures quotient { (result ≡ n / 100)
+        × (n % 100 ≡ 0) }
+    ensures* { n % 10 ≡ 0 }
 {
     remembered(divided(n >> 2), b"/") /* n / 4 */
 }
@@ -105,7 +109,7 @@ echo "no divide: $disassembled calls, $(grep -c '^ *[0-9a-f]*:' "$work/code") li
 ! routines "$archive" || { echo "no divide: the archive has, or calls, what may be a routine for division" && exit 1; }
 echo "no divide: the archive has no routine for division and calls none"
 
-crates="serifdove $(sed -n 's/^serifdove: //p' crates.txt)"
+crates="serifdove $(sed -n 's/^serifdove staticlib: //p' crates.txt)"
 files=()
 for crate in $crates; do
     mapfile -t -O "${#files[@]}" files < <(find "crates/$crate/src" -name '*.rt')

@@ -1,1 +1,2 @@
 // What an up/down counter has counted: definitions and theorems alone, no functions.
+#![tactic(auto)]

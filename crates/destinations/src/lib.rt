@@ -1,4 +1,6 @@
 // What each output and each flag gets from the rows.
+#![tactic(auto)]
+
 ghost use Rattle.std.specs.Prelude.{◌≡◌, cond, ◌+◌, ◌≤◌, ◌<◌, length, set, replicate, pos};
 ghost use Rattle.fields.specs.Fields.{class_at, number_in};
 ghost use Rattle.decoding.specs.Decoded.{row_at};

@@ -1,4 +1,6 @@
 // What the starts and latch store in a record.
+#![tactic(auto)]
+
 ghost use Rattle.std.specs.Prelude.{◌≡◌, cond, ◌+◌, ◌≤◌, ◌<◌, length, pos};
 ghost use Rattle.kinds.specs.Table.{kinds_table};
 ghost use Rattle.rules.specs.Rules.{three};

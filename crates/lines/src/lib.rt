@@ -1,4 +1,6 @@
 // A block of an accepted circuit, read from its bytes and ready to be worked out.
+#![tactic(auto)]
+
 ghost use Rattle.std.specs.Prelude.{◌≡◌, ◌+◌, ◌*◌, ◌≤◌, ◌<◌, length};
 ghost use Rattle.kinds.specs.Table.{kinds_table, rows};
 ghost use Rattle.connectors.specs.Connectors.{connectors_at};
@@ -11,7 +13,7 @@ use blocks::Prepared;
 use kinds::{KindTable, Ticks};
 
 // Kind, retentive or not, class bytes and numbers of four connectors (0 where there is none), parameters made ready.
-#[derive(Drop)]
+#[derive(Clone, Copy)]
 pub struct Line {
     pub kind: usize,
     pub retentive: bool,

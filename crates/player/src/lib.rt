@@ -1,4 +1,6 @@
 // Makes calls that are given as numbers: what `play` says of a list of calls is what the calls do.
+#![tactic(auto)]
+
 ghost use Rattle.std.specs.Prelude.{◌≡◌, ◌+◌, ◌≤◌, length};
 ghost use Rattle.calls.specs.Calls.{publish};
 ghost use Rattle.calls.specs.Play.{on, moment, reply_to, after, play};

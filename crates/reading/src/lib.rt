@@ -1,4 +1,6 @@
 // Reads a supplier's rows as a circuit: all rows are judged first, then their fields are written. Each pass splits a row once.
+#![tactic(auto)]
+
 ghost use Rattle.std.specs.Prelude.{◌≡◌, List, ◌∷◌, ℕ, ◌+◌, ◌*◌, ◌≤◌, ◌<◌, length, drop};
 ghost use Rattle.std.proofs.lemmas.List.Edits.{sets};
 ghost use Rattle.words.specs.Bytes.{bytes_of};
@@ -15,7 +17,7 @@ use refusals::Answer;
 use rows::Shape;
 
 // A row that was judged: refusal number or 0; how many bytes its fields take; whether it is a block's; where the next row begins.
-#[derive(Drop)]
+#[derive(Clone, Copy)]
 pub struct Judged {
     pub number: u8,
     pub size: usize,
@@ -25,7 +27,7 @@ pub struct Judged {
 
 // What the pass over all rows counted: refusal number or 0; rows, the faulty one among them; blocks; whether the fields go over the room,
 // and else how much of it is left.
-#[derive(Drop)]
+#[derive(Clone, Copy)]
 pub struct Counted {
     pub number: u8,
     pub rows: usize,
@@ -35,14 +37,14 @@ pub struct Counted {
 }
 
 // The cells of a label: whether they fit, and then how many bytes its field takes.
-#[derive(Drop)]
+#[derive(Clone, Copy)]
 pub struct Label {
     pub fits: bool,
     pub size: usize,
 }
 
 // A row that was put: where its fields end, and where the next row begins.
-#[derive(Drop)]
+#[derive(Clone, Copy)]
 pub struct Placed {
     pub end: usize,
     pub next: usize,

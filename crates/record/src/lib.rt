@@ -1,4 +1,6 @@
 // Where each word of a run record stands, and when a record is sound. No other crate writes a word's place as a number.
+#![tactic(auto)]
+
 ghost use Rattle.std.specs.Prelude.{◌≡◌, ◌+◌, ◌≤◌, ◌<◌, ◌^◌, length, set, pos};
 ghost use Rattle.words.specs.Signed.{over, bit_of};
 ghost use Rattle.kinds.specs.Kinds.{◌to◌, in_range};

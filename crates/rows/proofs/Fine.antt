@@ -7,7 +7,7 @@ use mathlib.Core.Option.{Option, none, some}
 use Prim.Native.Nat.{ℕ, suc, ◌+◌, ◌≤◌, ◌<◌}
 use native.Mathlib.Omega.{arith}
 use lib.Dec.{eqb}
-use lib.ListN.{length, get_or, drop, length-append}
+use lib.ListN.{length, get_or, drop, length-append, replicate}
 use lib.Seq.{get_or-append-add}
 use lib.IntN.{ℤ, pos}
 use borrow.Author.Tests.{eq-eqb, le-leb}
@@ -18,7 +18,7 @@ use Rattle.kept.proofs.Lists.{match-length}
 use Rattle.digits.specs.Numbers.{decimal, signed_decimal}
 use Rattle.digits.proofs.Signed.{Says, count-said, signed-said}
 use Rattle.rows.specs.declared.Shape.{Shape}
-use Rattle.rows.specs.Columns.{below_of, above_of, said_in, packed, numbers_fit, numbers_bytes, block_shape, output_shape, says, shape_by, nth, shape_of, numbers_in, columns_of, widths_of, label_fits, mark_said, label_field, mark_of, label_of, is_shaped, is_fit, row_faults, row_number, fields_by, fields_of, is_block, widths}
+use Rattle.rows.specs.Columns.{below_of, above_of, said_in, packed, numbers_fit, numbers_bytes, block_shape, output_shape, says, shape_by, nth, shape_of, numbers_in, columns_of, widths_of, label_fits, mark_said, label_field, mark_of, label_of, is_shaped, is_fit, row_faults, row_number, fields_by, fields_of, is_block, widths, connector_widths}
 use Rattle.rows.specs.Writing.{label_cells}
 use Rattle.rows.specs.Entries.{Entry, packed_all, entry_bytes, entry_cells, FitsIn, Shaped, block, output, Fine}
 use Rattle.rows.proofs.Widths.{widths-length}
@@ -186,7 +186,7 @@ record ShapeRead (e : Entry) : Type 0 where
 module _ (e : Entry) (f : Fine e) where
   kind-cell : nth (entry_cells e) 1 ≡ signed_decimal (get_or e.numbers 0 (pos 0))
   unfolding entry_cells widths
-  kind-cell = first_cell 1 _ e.numbers (cond e.shape.labelled (label_cells e.label) []) f.fit
+  kind-cell = first_cell 1 (1 ∷ (connector_widths e.shape.inputs ++ replicate e.shape.parameters 4)) e.numbers (cond e.shape.labelled (label_cells e.label) []) f.fit
 
   tag-cell : nth (entry_cells e) 0 ≡ decimal e.shape.tag
   unfolding entry_cells

@@ -1,4 +1,6 @@
 // What rows of cells mean. Definitions for the reader and the writer, and the shape of a row by the table of kinds.
+#![tactic(auto)]
+
 ghost use Rattle.std.specs.Prelude.{◌≡◌, ◌+◌, ◌*◌, ◌≤◌, ◌<◌};
 ghost use Rattle.kinds.specs.Table.{Lent};
 ghost use Rattle.rows.specs.Columns.{block_shape, output_shape, no_shape, below_of, above_of};
@@ -7,7 +9,7 @@ ghost use Rattle.rows.specs.Widths.{width_at};
 use kinds::KindTable;
 
 // Whether tag and kind are known; the field's tag; how many connectors and parameters it has; whether a label may follow.
-#[derive(Drop)]
+#[derive(Clone, Copy)]
 pub struct Shape {
     pub known: bool,
     pub tag: u8,

@@ -1,4 +1,6 @@
 // The calls on a record. Each judges circuit and record first, in the order of the numbers, and then has its one effect.
+#![tactic(auto)]
+
 ghost use Rattle.std.specs.Prelude.{◌≡◌, not, ◌&&◌, [], ◌∷◌, eqb, ◌-◌, ◌<◌, length};
 ghost use Rattle.kinds.specs.Table.{kinds_table};
 ghost use Rattle.refusals.specs.Faults.{◌when◌, lowest};

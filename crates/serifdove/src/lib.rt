@@ -1,4 +1,6 @@
 // The C interface: one line a call, over the calls. include/serifdove.h has the promises in plain words.
+#![tactic(auto)]
+
 ghost use Rattle.std.specs.Prelude.{◌≡◌, length};
 ghost use Rattle.refusals.specs.Limited.{older};
 ghost use Rattle.circuit.specs.Circuit.{answer_at, answer_of};

@@ -1,1 +1,2 @@
 // What smaller limits change: definitions and theorems alone, no functions.
+#![tactic(auto)]

@@ -1,4 +1,6 @@
 // A row of a text, split to its end into cells that are held as start and size; what these say; and their bytes in a field.
+#![tactic(auto)]
+
 ghost use Rattle.std.specs.Prelude.{◌≡◌, cond, List, ℕ, ◌+◌, ◌*◌, ◌≤◌, ◌<◌, ltb, length, set, take, drop};
 ghost use Rattle.std.proofs.lemmas.List.Edits.{sets};
 ghost use Rattle.std.specs.Int.{w32};
@@ -15,7 +17,7 @@ use kinds::KindTable;
 use rows::Shape;
 
 // A row that was split: how many cells; whether it is whole; whether its last cell stands in quotes; where the next row begins.
-#[derive(Drop)]
+#[derive(Clone, Copy)]
 pub struct Found {
     pub count: usize,
     pub whole: bool,

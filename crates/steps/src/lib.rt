@@ -1,4 +1,6 @@
 // The inputs of a block, resolved together, its step, and the steps of a turn.
+#![tactic(auto)]
+
 ghost use Rattle.std.specs.Prelude.{◌≡◌, ◌+◌, ◌-◌, ◌≤◌, ◌<◌, min, get_or};
 ghost use Rattle.kinds.specs.Table.{kinds_table};
 ghost use Rattle.blocks.specs.Fit.{Sixteen};
@@ -14,7 +16,7 @@ use lines::Line;
 use rules::BlockWords;
 
 // What a turn worked out, and what is to go then.
-#[derive(Drop)]
+#[derive(Clone, Copy)]
 pub struct Progress {
     pub worked: usize,
     pub left: usize,

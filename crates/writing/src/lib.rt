@@ -1,4 +1,6 @@
 // Writes an accepted circuit as rows: its text is measured first, then written.
+#![tactic(auto)]
+
 ghost use Rattle.std.specs.Prelude.{◌≡◌, true, false, [], ◌∷◌, ◌+◌, ◌-◌, ◌*◌, ◌≤◌, ◌<◌, ltb, length};
 ghost use Rattle.std.proofs.lemmas.List.Edits.{sets};
 ghost use Rattle.std.specs.Int.{w32};
@@ -14,14 +16,14 @@ use refusals::Answer;
 use rows::Shape;
 
 // How many bytes of text, or the place behind them, and where the circuit goes on.
-#[derive(Drop)]
+#[derive(Clone, Copy)]
 pub struct Cursor {
     pub to: usize,
     pub at: usize,
 }
 
 // Whether a text does not fit, and how much room it leaves where it does.
-#[derive(Drop)]
+#[derive(Clone, Copy)]
 pub struct Room {
     pub over: bool,
     pub left: usize,

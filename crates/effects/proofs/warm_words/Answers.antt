@@ -1,0 +1,15 @@
+-- `effects::warm_words` meets its contract: the blocks that are not retentive, the words before them, mark and M8. Assumes nothing.
+use mathlib.Core.Path.{◌∙◌, ap}
+use mathlib.Core.List.{List}
+use lib.IntN.{ℤ, pos}
+use Rattle.record.specs.Places.{mark, flag, phase, size_of, index_of, put}
+use Rattle.record.specs.Written.{put_all, nothing}
+use Rattle.effects.proofs.Stored.{warm-is}
+use Rattle.effects.proofs.warm_words.Goals as goal
+
+pub returns : goal.returns
+returns c =
+    let cleared = c.clear_fixed.ensures ∙ ap (λ (l : List ℤ). put_all l (index_of phase) (size_of 0) nothing) c.clear_blocks.ensures in
+    c.begin.ensures
+    ∙ ap (λ (l : List ℤ). put (put l mark (pos 1)) (flag 8) (pos 1)) cleared
+    ∙ warm-is c.args.bytes.now c.args.n c.args.offsets.now c.requires.1 c.args.rec.now c.requires.2
