@@ -25,7 +25,7 @@ for file in crates/*/specs/*.antt; do
         while read -r crate module; do
             used=crates/$crate/specs/$module.antt
             if [ -f "$used" ] && is_beside "$used"; then echo "trust: $file imports $used" && bad=1; fi
-        done < <(sed -n 's/^use Rattle·\([a-z_]*\)\(·specs\)\{0,1\}\.specs\.\([A-Za-z]*\).*/\1 \3/p' "$file")
+        done < <(sed -n 's/^use Rattle\.\([a-z_]*\)\.specs\.\([A-Za-z]*\).*/\1 \2/p' "$file")
     fi
 done
 listed=$(grep -c '^| `crates/[a-z_]*/specs/' "$page")

@@ -35,14 +35,14 @@ fn argument_is(rt: &impl Env, k: usize, expected: &[u8]) -> bool {
 // For the series that the second argument names.
 fn for_series(rt: &(impl Env + Input + Print)) -> io::Result<()> {
     if argument_is(rt, 2, b"0BA6") {
-        return report::judged_from(rt, true);
+        return report::judged_from(rt, &mut rt.reader(), true);
     }
     println!(rt; "there is no such series; expected is 0BA6")
 }
 
 fn main(rt: HostRuntime) -> io::Result<()> {
     if !has_argument(&rt, 1) {
-        return report::judged_from(&rt, false);
+        return report::judged_from(&rt, &mut rt.reader(), false);
     }
     if has_argument(&rt, 2) && !has_argument(&rt, 3) {
         if argument_is(&rt, 1, b"--series") {

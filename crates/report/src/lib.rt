@@ -184,9 +184,9 @@ pub fn read_full(input: &mut impl Read, buffer: &mut [u8]) -> io::Result<usize>
 }
 
 // Reads a circuit to its end and prints the answer to it, or that for the series.
-pub fn judged_from(rt: &(impl Input + Print), for_0ba6: bool) -> io::Result<()> {
+pub fn judged_from(rt: &impl Print, input: &mut impl Read, for_0ba6: bool) -> io::Result<()> {
     let mut bytes = [0u8; ROOM];
-    let n = read_full(&mut rt.reader(), &mut bytes)?;
+    let n = read_full(input, &mut bytes)?;
     if for_0ba6 {
         return judged_for_0ba6(rt, &bytes[..n]);
     }
