@@ -34,6 +34,7 @@ fn time_of(kinds: &KindTable, kind: usize, j: usize, params: [i32; 4]) -> Ticks
 }
 
 // A block's parameters, made ready.
+#[tactic(auto, unfolding(crate::specs::Blocks::prepared))]
 pub fn prepare(kinds: &KindTable, kind: usize, params: [i32; 4]) -> Prepared
     requires { Lent kinds.now kind × (allowed kind params ≡ true) }
     ensures { result ≡ prepared kind params }

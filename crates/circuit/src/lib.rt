@@ -65,7 +65,8 @@ fn field(
     if tag == 0x20 {
         return decoding::label(at, size, head, bytes.len());
     }
-    if tag == 0x30 {
+    let is_row = tag == 0x30;
+    if is_row {
         return decoding::row(limits, bytes, at, size, head, sorts, used);
     }
     if tag == 0x7F {

@@ -81,6 +81,7 @@ fn names_block(class: usize) -> bool
 }
 
 // The number of a connector of a right class that names a block.
+#[tactic(auto, unfolding(crate::specs::Named::named_number, crate::specs::Named::six_or_seven))]
 fn named(spot: usize, own: usize, n: usize, sorts: &[bool; 400], class: usize, number: usize) -> u8
     requires { own ≤ 401 }
     ensures { result ≡ named_number spot own n sorts.now class number }
@@ -155,6 +156,7 @@ pub fn connector(
 }
 
 // The lower of two refusal numbers; 0 is none.
+#[tactic(auto, unfolding(crate::specs::Named::lower))]
 pub fn lower(a: u8, b: u8) -> u8
     ensures { result ≡ lower_of a b }
 {

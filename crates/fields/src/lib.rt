@@ -10,6 +10,7 @@ ghost use Rattle.fields.specs.Marks.{mark};
 use refusals::{AFTER_BLOCK, Limits, OPENING};
 
 // The number of a header.
+#[tactic(auto, unfolding(crate::specs::Fields::header_faults))]
 pub fn header_number(limits: Limits, bytes: &[u8], at: usize, size: usize, stage: u8) -> u8
     requires { (at + 3) + size ≤ length bytes.now }
     ensures { result ≡ lowest (header_faults limits bytes.now at size stage) }
@@ -32,6 +33,7 @@ pub fn header_number(limits: Limits, bytes: &[u8], at: usize, size: usize, stage
 }
 
 // The number of a label.
+#[tactic(auto, unfolding(crate::specs::Fields::label_faults))]
 pub fn label_number(size: usize, stage: u8) -> u8
     ensures { result ≡ lowest (label_faults size stage) }
 {
@@ -45,6 +47,7 @@ pub fn label_number(size: usize, stage: u8) -> u8
 }
 
 // The number of the end field.
+#[tactic(auto, unfolding(crate::specs::Fields::end_faults))]
 pub fn end_number(size: usize, stage: u8, n: usize, count: usize) -> u8
     ensures { result ≡ lowest (end_faults size stage n count) }
 {

@@ -91,7 +91,8 @@ fn label_at(text: &[u8], starts: &[usize; 16], sizes: &[usize; 16], j: usize, qu
             size: 0,
         };
     }
-    if 16 < size {
+    let is_too_long = 16 < size;
+    if is_too_long {
         return Label {
             fits: false,
             size: 0,
@@ -381,10 +382,12 @@ pub fn read_rows(text: &[u8], circuit: &mut [u8]) -> Answer
     let mut starts = [0usize; 16];
     let mut sizes = [0usize; 16];
     let counted = survey(&kinds, text, circuit.len(), &mut starts, &mut sizes);
-    if counted.number != 0 {
+    let is_faulty = counted.number != 0;
+    if is_faulty {
         return refusals::refused_at(counted.number as usize, counted.rows);
     }
-    if 400 < counted.blocks {
+    let are_too_many = 400 < counted.blocks;
+    if are_too_many {
         return refusals::refused_at(34, 0);
     }
     if counted.over {

@@ -81,6 +81,7 @@ pub fn threshold_trigger(ax: i32, params: [i32; 4], q: bool) -> BlockWords
 }
 
 // Kind 14, comparator: on actual Ax minus actual Ay.
+#[tactic(auto, using(crate::proofs::Apart::held_apart))]
 pub fn comparator(ax: i32, ay: i32, params: [i32; 4], q: bool) -> BlockWords
     requires { Scaled ax (parameter params 0) (parameter params 1) × Scaled ay (parameter params 0) (parameter params 1) }
     ensures { result ≡ compared ax ay params q }

@@ -45,6 +45,7 @@ const LABELLED: u8 = 49;
 // ---- a label's cell
 
 // Whether a byte makes its cell want quotes.
+#[tactic(auto, unfolding(cells::specs::Cells::special))]
 fn is_special(x: u8) -> bool
     ensures { result ≡ special x }
 {

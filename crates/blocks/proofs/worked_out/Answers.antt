@@ -5,7 +5,6 @@ use Rattle.kinds.specs.Kinds.{kind_of, kinds, scaled}
 use Rattle.blocks.specs.Blocks.{rules, worked_out}
 use Rattle.blocks.proofs.Ready.{scaling, indexing, no-rule}
 use native.Mathlib.Omega.{arith}
-use Rattle.std.proofs.Common.{rules as rules-of-std}
 use Rattle.blocks.proofs.worked_out.Goals as goal
 
 pub shift_block-requires : goal.shift_block-requires

@@ -49,12 +49,12 @@ returns-then-tag-eq32 c =
     λ st k.
     field-label a.limits a.bytes.now a.at _ c.two_at-size.ensures.0 fit st _ (sym c.byte_at-tag.ensures.0 ∙ c.if-tag-eq32.true) (c.label.ensures a.limits a.bytes.now a.offsets.now a.sorts.now a.used.now a.registers.now st k)
 
-pub returns-then-tag-eq48 : goal.returns-then-tag-eq48
-returns-then-tag-eq48 c =
+pub returns-then-is_row : goal.returns-then-is_row
+returns-then-is_row c =
     let a = c.args in
     let fit : (a.at + 3) + c.two_at-size.result ≤ length a.bytes.now = omega arith in
     λ st k.
-    field_row a.limits a.bytes.now a.at _ c.two_at-size.ensures.0 fit st _ (sym c.byte_at-tag.ensures.0 ∙ c.if-tag-eq48.true) (c.row.ensures a.offsets.now a.registers.now st k)
+    field_row a.limits a.bytes.now a.at _ c.two_at-size.ensures.0 fit st _ (sym c.byte_at-tag.ensures.0 ∙ omega arith) (c.row.ensures a.offsets.now a.registers.now st k)
 
 pub returns-then-tag-eq127 : goal.returns-then-tag-eq127
 returns-then-tag-eq127 c =
@@ -74,6 +74,6 @@ returns c =
     (λ z. c.if-tag-eq1.false (t ∙ z))
     (λ z. c.if-tag-eq16.false (t ∙ z))
     (λ z. c.if-tag-eq32.false (t ∙ z))
-    (λ z. c.if-tag-eq48.false (t ∙ z))
+    (λ z. omega (arith, t, z))
     (λ z. c.if-tag-eq127.false (t ∙ z)))
     (λ z. omega arith)

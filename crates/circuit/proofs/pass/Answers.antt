@@ -1,6 +1,5 @@
 -- `circuit::pass` meets its contract: the loop holds what `Reached` says; a field without a fault brings it nearer to the end of
 -- the bytes. Assumes nothing.
-use Prim.Native.Nat.{◌-◌}
 use Rattle.refusals.specs.Stages.{opening}
 use Rattle.decoding.specs.Held.{seen_of, judged_of}
 use Rattle.decoding.proofs.Steps.{head_of}

@@ -1,7 +1,6 @@
 -- `connectors::inputs` meets its contract: the loop goes from the last input to the first; what holds for one of two holds for
 -- both together. Assumes nothing.
 use mathlib.Core.Path.{◌≡◌, ◌∙◌, ap₂}
-use Prim.Native.Nat.{◌-◌}
 use native.Mathlib.Omega.{arith}
 use Rattle.connectors.specs.Named.{lower}
 use Rattle.connectors.proofs.Laws.{inputs-none, inputs-more, inputs-all}

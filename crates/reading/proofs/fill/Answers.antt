@@ -1,5 +1,4 @@
 -- `reading::fill` meets its contract: the loop holds what `Written` says, and each row brings it nearer to the end. Assumes nothing.
-use Prim.Native.Nat.{◌-◌}
 use native.Mathlib.Omega.{arith}
 use Rattle.reading.proofs.Surveying.{written_none, written-more, written_all, same-room, sound-row, row_room}
 use Rattle.reading.proofs.fill.Goals as goal

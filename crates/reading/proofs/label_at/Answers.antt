@@ -15,16 +15,16 @@ returns-then-mark-eq0 c =
     looks-as _ _ _ _ m.ensures
     (looks-none m.result _ z.result z.ensures.0 (not-false _ c.if-not-mark.false) c.if-mark-eq0.true)
 
-pub returns-then-size-gt16 : goal.returns-then-size-gt16
-returns-then-size-gt16 c =
+pub returns-then-is_too_long : goal.returns-then-is_too_long
+returns-then-is_too_long c =
     let m = c.number_in-mark in
     let z = c.content_size-size in
     looks-as _ _ _ _ m.ensures
-    (looks-long m.result _ z.result z.ensures.0 (not-false _ c.if-not-mark.false) c.if-mark-eq0.false (omega (arith, c.if-size-gt16.true)))
+    (looks-long m.result _ z.result z.ensures.0 (not-false _ c.if-not-mark.false) c.if-mark-eq0.false (omega arith))
 
 pub returns : goal.returns
 returns c =
     let m = c.number_in-mark in
     let z = c.content_size-size in
     looks-as _ _ _ _ m.ensures
-    (looks-one m.result _ z.result z.ensures.0 (not-false _ c.if-not-mark.false) c.if-mark-eq0.false (mark-small m.result _ m.ensures) c.if-size-gt16.false)
+    (looks-one m.result _ z.result z.ensures.0 (not-false _ c.if-not-mark.false) c.if-mark-eq0.false (mark-small m.result _ m.ensures) (omega arith))

@@ -10,63 +10,62 @@ use Rattle.rows.specs.Columns.{fields_of}
 use Rattle.reading.proofs.Answering.{untouched, faulty-answer, blocks-answer, room-answer, has_room, whole-answer, written_after}
 use Rattle.reading.proofs.read_rows.Goals as goal
 
-pub returns-then-counted-ne0 : goal.returns-then-counted-ne0
-returns-then-counted-ne0 c =
+pub returns-then-is_faulty : goal.returns-then-is_faulty
+returns-then-is_faulty c =
     let a = c.args in
     let v = c.survey-counted in
-    let t = c.if-counted-ne0.true in
-    let n : v.result.number ≡ 0 → ⊥ = λ z. omega (arith, t, z) in
+    let n : v.result.number ≡ 0 → ⊥ = λ z. omega arith in
     let e = faulty-answer a.text.now _ v.result v.ensures.0 n in
     (c.refused_at.ensures ∙ e, untouched a.text.now a.circuit.now _ e n)
 
-pub returns-then-counted-gt400 : goal.returns-then-counted-gt400
-returns-then-counted-gt400 c =
+pub returns-then-are_too_many : goal.returns-then-are_too_many
+returns-then-are_too_many c =
     let a = c.args in
     let v = c.survey-counted in
-    let e = blocks-answer a.text.now _ v.result v.ensures.0 c.if-counted-ne0.false (omega (arith, c.if-counted-gt400.true)) in
-    (c.refused_at-then-counted-gt400.ensures ∙ e, untouched a.text.now a.circuit.now _ e (λ z. omega arith))
+    let e = blocks-answer a.text.now _ v.result v.ensures.0 (omega arith) (omega arith) in
+    (c.refused_at-then-are_too_many.ensures ∙ e, untouched a.text.now a.circuit.now _ e (λ z. omega arith))
 
 pub returns-then-counted : goal.returns-then-counted
 returns-then-counted c =
     let a = c.args in
     let v = c.survey-counted in
-    let e = room-answer a.text.now _ v.result v.ensures.0 c.if-counted-ne0.false c.if-counted-gt400.false c.if-counted.true in
+    let e = room-answer a.text.now _ v.result v.ensures.0 (omega arith) (omega arith) c.if-counted.true in
     (c.refused_at-then-counted.ensures ∙ e, untouched a.text.now a.circuit.now _ e (λ z. omega arith))
 
 pub put_header-requires : goal.put_header-requires
 put_header-requires c =
-    let room : 9 + length (joined fields_of (rows_of c.args.text.now)) ≤ length c.args.circuit.now = let a = c.args in let v = c.survey-counted in has_room a.text.now (length a.circuit.now) v.result v.ensures.0 c.if-counted-ne0.false c.if-counted-gt400.false c.if-counted.false in
+    let room : 9 + length (joined fields_of (rows_of c.args.text.now)) ≤ length c.args.circuit.now = let a = c.args in let v = c.survey-counted in has_room a.text.now (length a.circuit.now) v.result v.ensures.0 (omega arith) (omega arith) c.if-counted.false in
     omega (arith, room)
 
 pub fill-end-requires : goal.fill-end-requires
 fill-end-requires c =
-    let room : 9 + length (joined fields_of (rows_of c.args.text.now)) ≤ length c.args.circuit.now = let a = c.args in let v = c.survey-counted in has_room a.text.now (length a.circuit.now) v.result v.ensures.0 c.if-counted-ne0.false c.if-counted-gt400.false c.if-counted.false in
+    let room : 9 + length (joined fields_of (rows_of c.args.text.now)) ≤ length c.args.circuit.now = let a = c.args in let v = c.survey-counted in has_room a.text.now (length a.circuit.now) v.result v.ensures.0 (omega arith) (omega arith) c.if-counted.false in
     let v = c.survey-counted in (
       c.table-kinds.ensures,
       v.ensures.1,
       v.ensures.2,
-      v.ensures.0.clean c.if-counted-ne0.false,
+      v.ensures.0.clean (omega arith),
       omega (arith, room, c.put_header.auto.circuit),
     )
 
 pub put_head-requires : goal.put_head-requires
 put_head-requires c =
-    let room : 9 + length (joined fields_of (rows_of c.args.text.now)) ≤ length c.args.circuit.now = let a = c.args in let v = c.survey-counted in has_room a.text.now (length a.circuit.now) v.result v.ensures.0 c.if-counted-ne0.false c.if-counted-gt400.false c.if-counted.false in
+    let room : 9 + length (joined fields_of (rows_of c.args.text.now)) ≤ length c.args.circuit.now = let a = c.args in let v = c.survey-counted in has_room a.text.now (length a.circuit.now) v.result v.ensures.0 (omega arith) (omega arith) c.if-counted.false in
     omega (arith, room, c.fill-end.ensures.1, c.fill-end.auto.circuit, c.put_header.auto.circuit)
 
 pub overflow_add-end : goal.overflow_add-end
 overflow_add-end c =
-    let room : 9 + length (joined fields_of (rows_of c.args.text.now)) ≤ length c.args.circuit.now = let a = c.args in let v = c.survey-counted in has_room a.text.now (length a.circuit.now) v.result v.ensures.0 c.if-counted-ne0.false c.if-counted-gt400.false c.if-counted.false in
+    let room : 9 + length (joined fields_of (rows_of c.args.text.now)) ≤ length c.args.circuit.now = let a = c.args in let v = c.survey-counted in has_room a.text.now (length a.circuit.now) v.result v.ensures.0 (omega arith) (omega arith) c.if-counted.false in
     omega (arith, room, c.fill-end.ensures.1, c.before.before.before.before.before.before.before.before.before.before.before.before.before.before.before.before.before.before.before.before.before.before.before.before.before.before.before.well_formed)
 
 pub returns : goal.returns
 returns c =
-    let room : 9 + length (joined fields_of (rows_of c.args.text.now)) ≤ length c.args.circuit.now = let a = c.args in let v = c.survey-counted in has_room a.text.now (length a.circuit.now) v.result v.ensures.0 c.if-counted-ne0.false c.if-counted-gt400.false c.if-counted.false in
+    let room : 9 + length (joined fields_of (rows_of c.args.text.now)) ≤ length c.args.circuit.now = let a = c.args in let v = c.survey-counted in has_room a.text.now (length a.circuit.now) v.result v.ensures.0 (omega arith) (omega arith) c.if-counted.false in
     let a = c.args in
     let v = c.survey-counted in
     let f = c.fill-end in
-    let z = c.if-counted-ne0.false in
-    let e = whole-answer a.text.now (length a.circuit.now) v.result v.ensures.0 z c.if-counted-gt400.false c.if-counted.false f.result f.ensures.1 in (
+    let z : v.result.number ≡ 0 = omega arith in
+    let e = whole-answer a.text.now (length a.circuit.now) v.result v.ensures.0 z (omega arith) c.if-counted.false f.result f.ensures.1 in (
       c.accepted_with.ensures ∙ e,
       written_after a.text.now a.circuit.now c.put_header.new.circuit f.new.circuit c.put_head.new.circuit v.result.blocks v.result.rows
           f.result e (room) (v.ensures.0.blocks z) c.put_header.ensures f.ensures.0 f.ensures.1 c.put_head.ensures,

@@ -1,5 +1,4 @@
 -- `reading::survey` meets its contract: the loop holds what `Surveyed` says, and each row brings it nearer to the end. Assumes nothing.
-use Prim.Native.Nat.{◌-◌}
 use native.Mathlib.Omega.{arith}
 use Rattle.reading.proofs.Surveying.{surveyed-none, surveyed-more, surveyed-fault, surveyed-all, fewer-blocks}
 use Rattle.reading.proofs.survey.Goals as goal

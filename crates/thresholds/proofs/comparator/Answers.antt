@@ -2,13 +2,9 @@
 use mathlib.Core.Path.{◌∙◌}
 use Rattle.words.proofs.Locals.{back, back-ok}
 use Rattle.kinds.specs.Kinds.{parameter}
-use Rattle.words.proofs.Ranges.{whole}
+use Rattle.thresholds.proofs.Apart.{held_apart}
 use Rattle.rules.specs.Rules.{compared}
-use Rattle.std.proofs.Common.{rules}
 use Rattle.thresholds.proofs.comparator.Goals as goal
-
-pub overflow_sub-x : goal.overflow_sub-x
-overflow_sub-x c = let x = c.actual-x.ensures.1 in let y = c.actual-y.ensures.1 in search (rules, whole)
 
 pub returns : goal.returns
 unfolding compared
@@ -19,4 +15,4 @@ returns c =
     let x = rw (back c.ranges.ax, a, b) at c.actual-x.ensures.0 in
     let y = rw (back c.ranges.ay, a, b) at c.actual-y.ensures.0 in
     c.triggered_by.ensures
-    ∙ rw (back (overflow_sub-x c.before)) (rw (back-ok c.actual-x.result c.actual-x.type_inv, back-ok c.actual-y.result c.actual-y.type_inv, x, y))
+    ∙ rw (back (held_apart _ _ c.actual-x.ensures.1 c.actual-y.ensures.1)) (rw (back-ok c.actual-x.result c.actual-x.type_inv, back-ok c.actual-y.result c.actual-y.type_inv, x, y))

@@ -1,6 +1,5 @@
 -- No byte passed wants quotes. Assumes nothing.
 use mathlib.Core.Path.{refl, sym, ◌∙◌}
-use Prim.Native.Nat.{◌-◌}
 use native.Mathlib.Omega.{arith}
 use Rattle.writing.proofs.Cell.{any_here, any-on, any_none}
 use Rattle.writing.proofs.any_special.Goals as goal

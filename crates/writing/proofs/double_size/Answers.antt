@@ -1,9 +1,7 @@
 -- The size so far, and what is left. Assumes nothing.
 use mathlib.Core.Path.{ap}
-use Prim.Native.Nat.{◌-◌}
 use native.Mathlib.Omega.{arith}
 use lib.ListN.{length}
-use Rattle.cells.specs.Cells.{double}
 use Rattle.writing.proofs.Cell.{size-on, double-none}
 use Rattle.writing.proofs.double_size.Goals as goal
 

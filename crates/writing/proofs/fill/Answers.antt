@@ -1,7 +1,6 @@
 -- What is left to put, from here on, is what was to be put. Assumes nothing.
 use mathlib.Core.Path.{refl, sym, ◌∙◌, ap}
 use native.Mathlib.Omega.{arith}
-use lib.ListN.{length}
 use lib.Seq.{sets}
 use Rattle.writing.proofs.Row.{run-here, run_on, rows-length, rows-done, put_on}
 use Rattle.writing.proofs.fill.Goals as goal

@@ -1,6 +1,5 @@
 -- The size so far, and what is left. Assumes nothing.
 use mathlib.Core.Path.{sym, ◌∙◌, ap}
-use Prim.Native.Nat.{◌-◌}
 use native.Mathlib.Omega.{arith}
 use lib.ListN.{length}
 use Rattle.writing.proofs.Field.{text-start, end-start, text-done, end-done, turn}

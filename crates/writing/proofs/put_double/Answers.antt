@@ -1,10 +1,8 @@
 -- What is left to put, from here on, is what was to be put. Assumes nothing.
 use mathlib.Core.Path.{refl, sym, ◌∙◌, ap}
-use Prim.Native.Nat.{◌-◌}
 use native.Mathlib.Omega.{arith}
 use lib.ListN.{length}
 use lib.Seq.{sets}
-use Rattle.cells.specs.Cells.{double}
 use Rattle.writing.proofs.Cell.{size-on, put_on, double-none}
 use Rattle.writing.proofs.put_double.Goals as goal
 
