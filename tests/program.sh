@@ -117,10 +117,14 @@ for words in '--series' '--series 0BA7' "$work/q16 --series" "--series 0BA6 $wor
     ./check_circuit $words >"$work/line" 2>"$work/errors" </dev/null
     [ $? -eq 2 ] && [ ! -s "$work/line" ] && [ -s "$work/errors" ] || { echo "program: no error for: $words" && exit 1; }
 done
-# where it cannot be judged or told, that is no misfit: the disk is full; the program cannot be proved
-./check_circuit --series 0BA6 "$work/q16" >/dev/full 2>"$work/errors"
-[ $? -eq 2 ] && [ -s "$work/errors" ] || { echo "program: a full disk is not told" && exit 1; }
-mkdir -p "$work/fresh/tests" "$work/fresh/crates" "$work/stub" && cp check_circuit "$work/fresh" && cp tests/host.bash "$work/fresh/tests" && touch "$work/fresh/crates.txt" || exit 2
+# where it cannot be judged or told, that is no misfit: the disk is full; nothing can be read; the program cannot be proved
+for words in '' '--series 0BA6'; do
+    ./check_circuit $words "$work/q16" >/dev/full 2>"$work/errors"
+    [ $? -eq 2 ] && [ -s "$work/errors" ] || { echo "program: a full disk is not told" && exit 1; }
+    ./check_circuit $words >"$work/line" 2>"$work/errors" </
+    [ $? -eq 2 ] && [ ! -s "$work/line" ] && [ -s "$work/errors" ] || { echo "program: a folder for an input is not told" && exit 1; }
+done
+mkdir -p "$work/fresh/tests" "$work/fresh/crates/check_circuit" "$work/stub" && cp check_circuit "$work/fresh" && cp tests/host.bash "$work/fresh/tests" && touch "$work/fresh/crates.txt" || exit 2
 printf '#!/bin/sh\necho not proved\nexit 1\n' >"$work/stub/rt" && chmod +x "$work/stub/rt" || exit 2
 for words in '' '--series 0BA6'; do
     PATH=$work/stub:$PATH "$work/fresh/check_circuit" $words "$work/q16" >"$work/line" 2>"$work/errors"

@@ -18,7 +18,6 @@ use Rattle.kinds.proofs.Rows.{each-kind, small-kind}
 use Rattle.refusals.specs.Stages.{opening, among_rows}
 use Rattle.refusals.specs.Faults.{lowest}
 use Rattle.refusals.specs.declared.Limits.{Limits}
-use Rattle.connectors.specs.Connectors.{wrong}
 use Rattle.connectors.specs.Named.{six_or_seven}
 use Rattle.connectors.proofs.Laws.{none-wrong, none-later}
 use Rattle.blockfield.specs.BlockField.{kind_at, option_at, digitals_at, analogs_at, parameters_from, parameters_at, four_of, signed_at, signeds_at, wrong_length, most_option, wrong_kind, wrong_inputs, later_inputs, index_from, shift_register, block_faults}

@@ -6,7 +6,7 @@ use mathlib.Core.List.{List}
 use Prim.Native.Nat.{ℕ}
 use native.Mathlib.Omega.{arith}
 use Rattle.refusals.specs.declared.Limits.{Limits}
-use Rattle.decoding.specs.Decoded.{Circuit, nothing}
+use Rattle.decoding.specs.Decoded.{Circuit}
 use Rattle.circuit.specs.Circuit.{Verdict, accepted, refused, verdict_at, answer_at, answer_to}
 use Rattle.circuit.proofs.Listed.{refusal-listed}
 use Rattle.kept.specs.Keeps.{Bytes, Keeps, encode}

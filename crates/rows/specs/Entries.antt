@@ -1,6 +1,6 @@
 -- A block or row of a circuit by the numbers of its field, so that reader and writer go through both alike.
 -- Not part of what a reader has to believe.
-use Rattle.std.specs.Prelude.{ℕ, ◌+◌, ◌≡◌, true, cond, List, [], ◌∷◌, ◌++◌, map, get_or, ℤ, pos}
+use Rattle.std.specs.Prelude.{ℕ, ◌≡◌, true, cond, List, [], ◌∷◌, ◌++◌, map, get_or, ℤ, pos}
 use Rattle.std.proofs.Math.Option.{Option, none}
 use Rattle.words.specs.Signed.{minus, Between}
 use Rattle.kinds.specs.Kinds.{known}

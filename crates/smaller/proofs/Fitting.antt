@@ -1,9 +1,7 @@
 -- A kept circuit keeps the rules at other limits exactly when it fits them: the limits stand in four of the rules alone. Assumes nothing.
 use mathlib.Core.Path.{◌≡◌, refl, sym, subst}
-use mathlib.Core.Logic.{◌↔◌}
-use mathlib.Core.List.{List, [], ◌∷◌}
+use mathlib.Core.List.{List}
 use Prim.Native.Nat.{ℕ, zero, suc, ◌≤◌}
-use native.Mathlib.Omega.{arith}
 use lib.ListN.{take, drop, take-append-drop}
 use Rattle.refusals.specs.declared.Limits.{Limits}
 use Rattle.kinds.specs.Kinds.{kind_of}

@@ -2,14 +2,14 @@
 -- nothing.
 use mathlib.Core.Path.{◌≡◌, refl}
 use mathlib.Core.Bool.{Bool, true, false, not, ◌||◌, cond, true≢false}
-use mathlib.Core.List.{List, [], ◌∷◌}
+use mathlib.Core.List.{List}
 use Prim.Native.Nat.{ℕ, ◌+◌}
 use lib.Dec.{eqb, ltb}
 use lib.ListN.{get_or}
 use borrow.Author.Tests.{eqb-true}
 use Rattle.words.specs.Bytes.{number_at}
 use Rattle.kinds.specs.Kinds.{kind_of}
-use Rattle.refusals.specs.Faults.{lowest, ◌when◌}
+use Rattle.refusals.specs.Faults.{lowest}
 use Rattle.refusals.specs.Stages.{opening}
 use Rattle.refusals.specs.declared.Limits.{Limits}
 use Rattle.refusals.proofs.Tests.{or-false, not_is, None}

@@ -8,7 +8,6 @@ use native.Mathlib.Omega.{arith}
 use lib.Dec.{eqb}
 use lib.ListN.{length, get_or}
 use borrow.Author.Tests.{eqb-true, eqb-false}
-use Rattle.refusals.specs.Faults.{lowest}
 use Rattle.refusals.specs.Stages.{opening, ended}
 use Rattle.refusals.specs.Limited.{NoLarger}
 use Rattle.refusals.specs.declared.Limits.{Limits}

@@ -1,7 +1,6 @@
 -- `cells::close_at` meets its contract: what is passed and what is to come make the whole size; the measure is the bytes that are
 -- left. Assumes nothing.
 use mathlib.Core.Path.{refl, sym, ◌∙◌}
-use Prim.Native.Nat.{◌-◌}
 use native.Mathlib.Omega.{arith}
 use Rattle.cells.proofs.Laws.{skip-none, skip-within, quoted-next, quoted-past}
 use Rattle.cells.proofs.close_at.Goals as goal

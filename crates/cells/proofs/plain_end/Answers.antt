@@ -1,7 +1,6 @@
 -- `cells::plain_end` meets its contract: what is passed and what is to come make the whole size; the measure is the bytes that are
 -- left. Assumes nothing.
 use mathlib.Core.Path.{refl, sym, ◌∙◌}
-use Prim.Native.Nat.{◌-◌}
 use native.Mathlib.Omega.{arith}
 use Rattle.cells.proofs.Laws.{plain-stop, plain-next, plain-past}
 use Rattle.cells.proofs.plain_end.Goals as goal

@@ -1,4 +1,4 @@
-use Prim.Native.Nat.{◌≤◌, ◌-◌}
+use Prim.Native.Nat.{◌≤◌}
 use mathlib.Core.Path.{◌≡◌}
 use Rattle.destinations.proofs.Filled.{filled_from}
 use Rattle.destinations.proofs.fill_rows.Given as goal

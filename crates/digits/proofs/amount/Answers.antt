@@ -1,7 +1,6 @@
 -- `digits::amount` meets its contract: each byte is one step of `cut` (`step-on`, `step-bad`), and behind the last nothing is left
 -- (`step-done`). Assumes nothing.
 use mathlib.Core.Path.{refl, sym, ◌∙◌}
-use Prim.Native.Nat.{◌-◌}
 use native.Mathlib.Omega.{arith}
 use Rattle.digits.proofs.Laws.{step-on, step-bad, step-done, digit-least}
 use Rattle.digits.proofs.amount.Goals as goal

@@ -1,5 +1,4 @@
 -- `effects::clear_blocks` meets its contract: after d turns of the loop the first d blocks are gone through. Assumes nothing.
-use Prim.Native.Nat.{◌-◌}
 use native.Mathlib.Omega.{arith}
 use native.Mathlib.Numerals.{add-one}
 use mathlib.Core.Path.{◌≡◌, refl, ◌∙◌}

@@ -1,9 +1,8 @@
 -- `player::play_all` meets its contract: playing the orders that are left from here is playing all of them from the start.
 -- Assumes nothing.
-use Prim.Native.Nat.{◌-◌}
 use native.Mathlib.Omega.{arith}
 use mathlib.Core.Path.{refl, sym, ◌∙◌}
-use Rattle.calls.specs.Play.{moment, play}
+use Rattle.calls.specs.Play.{moment}
 use Rattle.player.proofs.Orders.{play-next, play-end}
 use Rattle.player.proofs.play_all.Goals as goal
 

@@ -30,7 +30,7 @@ overflow_add-result-2 c =
     let a = c.args in
     let m = c.number_in-mark in
     let room = label-room m.result _ (label_in a.text.now a.starts.now a.sizes.now (a.j + 1) a.quoted) m.ensures a.to c.if-mark-ne1.false in
-    omega (arith, c.requires.2, c.put_content-size.ensures.1, c.before.before.before.before.before.before.before.before.before.before.before.before.before.before.before.well_formed)
+    omega (arith, c.requires.2, c.put_content-size.ensures.1, c.well_formed)
 
 pub returns : goal.returns
 returns c =

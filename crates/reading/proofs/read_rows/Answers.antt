@@ -56,7 +56,7 @@ put_head-requires c =
 pub overflow_add-end : goal.overflow_add-end
 overflow_add-end c =
     let room : 9 + length (joined fields_of (rows_of c.args.text.now)) ≤ length c.args.circuit.now = let a = c.args in let v = c.survey-counted in has_room a.text.now (length a.circuit.now) v.result v.ensures.0 (omega arith) (omega arith) c.if-counted.false in
-    omega (arith, room, c.fill-end.ensures.1, c.before.before.before.before.before.before.before.before.before.before.before.before.before.before.before.before.before.before.before.before.before.before.before.before.before.before.before.well_formed)
+    omega (arith, room, c.fill-end.ensures.1, c.well_formed)
 
 pub returns : goal.returns
 returns c =

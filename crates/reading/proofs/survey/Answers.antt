@@ -14,7 +14,7 @@ row_at-row-requires c =
 pub counted_with-counted-requires : goal.counted_with-counted-requires
 counted_with-counted-requires c =
     let v = c.loop-at.invariant in
-    (omega (arith, v.few, c.loop-at-test.true, c.before.before.before.before.before.before.before.well_formed), fewer-blocks _ _ _ _ _ _ v)
+    (omega (arith, v.few, c.loop-at-test.true, c.well_formed), fewer-blocks _ _ _ _ _ _ v)
 
 pub returns-then-row-ne0 : goal.returns-then-row-ne0
 returns-then-row-ne0 c = (surveyed-fault _ _ _ _ _ _ c.loop-at.invariant c.loop-at-test.true c.row_at-row.result c.row_at-row.ensures.0 _ c.counted_with-counted.ensures c.if-row-ne0.true, c.row_at-row.ensures.1, c.row_at-row.ensures.2)

@@ -1,11 +1,9 @@
 -- `record::put_run` meets its contract: one word more is stored at each turn. Assumes nothing.
-use Prim.Native.Nat.{◌-◌}
 use native.Mathlib.Omega.{arith}
 use native.Mathlib.Numerals.{add-one}
 use mathlib.Core.Path.{◌≡◌, refl, ◌∙◌}
 use lib.ListN.{length}
 use Rattle.words.proofs.Locals.{back-ok}
-use Rattle.record.specs.Places.{at}
 use Rattle.record.specs.Written.{put_all}
 use Rattle.record.proofs.put_run.Goals as goal
 

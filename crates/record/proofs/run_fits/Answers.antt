@@ -1,9 +1,7 @@
 -- `record::run_fits` meets its contract: all words before the one at hand fit. Assumes nothing.
-use Prim.Native.Nat.{◌-◌}
 use native.Mathlib.Omega.{arith}
 use native.Mathlib.Numerals.{add-one}
 use mathlib.Core.Path.{◌≡◌, refl, sym, ◌∙◌}
-use mathlib.Core.Bool.{true}
 use Rattle.words.proofs.Locals.{back}
 use Rattle.record.specs.Sound.{every}
 use Rattle.record.proofs.Runs.{one-fails}

@@ -1,5 +1,4 @@
 -- `scan::run` meets its contract: circuit, record and phase are judged, then the turn is worked out. Assumes nothing.
-use Prim.Native.Nat.{◌-◌}
 use mathlib.Core.Path.{refl, sym, ◌∙◌}
 use Rattle.calls.specs.Calls.{run}
 use Rattle.scan.proofs.Answered.{run-22, run-done}

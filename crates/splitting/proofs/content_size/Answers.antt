@@ -1,11 +1,11 @@
 -- The bytes counted and what is left say as many as the cell. Assumes nothing.
 use mathlib.Core.Path.{refl, ap, sym, ◌∙◌}
 use mathlib.Core.List.{List}
-use Prim.Native.Nat.{ℕ, ◌+◌, ◌-◌}
+use Prim.Native.Nat.{ℕ, ◌+◌}
 use native.Mathlib.Omega.{arith}
-use lib.ListN.{length, take}
+use lib.ListN.{length}
 use Rattle.cells.specs.Cells.{undouble}
-use Rattle.splitting.proofs.Copies.{part, part-all, some, room, undouble-done, undoubled-size, content-quoted, content-plain, taken-size}
+use Rattle.splitting.proofs.Copies.{part-all, some, room, undouble-done, undoubled-size, content-quoted, content-plain, taken-size}
 use Rattle.splitting.proofs.content_size.Goals as goal
 
 pub returns-then-not-quoted : goal.returns-then-not-quoted

@@ -1,11 +1,10 @@
 -- What is put and what is left from place j on are the numbers' bytes. Assumes nothing.
 use mathlib.Core.Path.{refl, ap, sym, ◌∙◌}
-use Prim.Native.Nat.{◌+◌, ◌-◌}
+use Prim.Native.Nat.{◌+◌}
 use native.Mathlib.Omega.{arith}
 use lib.ListN.{drop}
 use lib.Seq.{sets}
-use Rattle.rows.specs.Columns.{widths}
-use Rattle.rows.proofs.Widths.{total, widths-total}
+use Rattle.rows.proofs.Widths.{widths-total}
 use Rattle.splitting.proofs.Numbers.{said-on, said-small, total-on, bytes-done}
 use Rattle.splitting.proofs.Packs.{put_on}
 use Rattle.splitting.proofs.put_numbers.Goals as goal

@@ -1,11 +1,11 @@
 -- What is put and what is left are the bytes. Assumes nothing.
 use mathlib.Core.Path.{refl, ap, sym, ◌∙◌}
-use Prim.Native.Nat.{◌+◌, ◌-◌}
+use Prim.Native.Nat.{◌+◌}
 use native.Mathlib.Omega.{arith}
-use lib.ListN.{length, length-set}
+use lib.ListN.{length-set}
 use lib.Seq.{sets}
 use Rattle.digits.proofs.Laws.{part-cons}
-use Rattle.splitting.proofs.Copies.{part, part-all, put_one}
+use Rattle.splitting.proofs.Copies.{part-all, put_one}
 use Rattle.digits.proofs.Laws.{part_none}
 use Rattle.splitting.proofs.put_plain.Goals as goal
 

@@ -1,12 +1,12 @@
 -- What is put and what is left are what the bytes say. Assumes nothing.
 use mathlib.Core.Path.{◌≡◌, refl, ap, sym, ◌∙◌}
 use mathlib.Core.List.{List}
-use Prim.Native.Nat.{ℕ, ◌+◌, ◌-◌}
+use Prim.Native.Nat.{ℕ, ◌+◌}
 use native.Mathlib.Omega.{arith}
 use lib.ListN.{length, take, drop, length-set}
 use lib.Seq.{sets}
 use Rattle.cells.specs.Cells.{undouble}
-use Rattle.splitting.proofs.Copies.{part, part-all, put_one, turn, room, some, undouble-done}
+use Rattle.splitting.proofs.Copies.{part-all, put_one, turn, room, some, undouble-done}
 use Rattle.splitting.proofs.put_undoubled.Goals as goal
 
 pub overflow_add-end : goal.overflow_add-end

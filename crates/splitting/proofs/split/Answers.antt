@@ -1,6 +1,5 @@
 -- `splitting::split` meets its contract: the loop is the walk over the cells. Assumes nothing.
 use mathlib.Core.Bool.{false}
-use Prim.Native.Nat.{◌-◌}
 use native.Mathlib.Omega.{arith}
 use Rattle.splitting.proofs.Walk.{walk-starts, walks-on, walk-breaks, walk_ends, comma-moves}
 use Rattle.splitting.proofs.split.Goals as goal

@@ -1,5 +1,4 @@
 -- `steps::steps_from` meets its contract: after i turns of the loop the first i steps are done. Assumes nothing.
-use Prim.Native.Nat.{◌-◌}
 use native.Mathlib.Omega.{arith}
 use mathlib.Core.Path.{◌≡◌, refl, sym, ◌∙◌}
 use Rattle.record.specs.Written.{lines_at}

@@ -1,5 +1,4 @@
 -- `steps::turn` meets its contract: as many steps as asked or as remain, then the blocks done. Assumes nothing.
-use Prim.Native.Nat.{◌-◌}
 use Prim.Native.Nat.{◌+◌}
 use native.Mathlib.Omega.{arith}
 use mathlib.Core.Path.{◌∙◌, ap}
