@@ -147,9 +147,22 @@ in_clone() {
 rm -f "$work/commands/rt"
 in_clone
 [ $? -eq 2 ] && grep -q 'the Rattle toolchain is needed to prove the archive, and its command rt is not found' "$work/errors" || wrong "without rt: $(cat "$work/told" "$work/errors")"
-printf '#!/bin/sh\necho "fn words::both: proved"\necho "rt: words proved (2 s)"\necho "rt: kinds NOT PROVED (exit 1, 3 s)"\nexit 1\n' >"$work/commands/rt"
+cat >"$work/commands/rt" <<'END'
+#!/bin/sh
+echo 'rt: words: begins with what a check kept in a folder'
+echo 'rt: chose --jobs 2 for words'
+echo 'fn words::both: proved'
+echo 'crate words: modules loaded=1 checked=0'
+echo 'logic=proved functions=1 sum=0'
+echo 'rt: chose --jobs 2 for kinds'
+echo 'fn kinds::table: not proved'
+echo 'crate kinds: modules loaded=1 checked=0'
+echo 'logic=not-proved'
+exit 1
+END
 chmod +x "$work/commands/rt"
 in_clone
-[ $? -eq 1 ] && grep -qx 'demo:   1 of [0-9]*: words proved (2 s); functions: 1' "$work/told" && grep -qx 'demo:   kinds NOT PROVED (exit 1, 3 s)' "$work/told" ||
+[ $? -eq 1 ] && grep -qx 'demo:   1 of [0-9]*: words proved; functions: 1' "$work/told" && grep -qx 'demo:   fn kinds::table: not proved' "$work/told" &&
+    grep -qx 'demo:   kinds NOT PROVED' "$work/told" ||
     wrong "with a crate that is not proved: $(cat "$work/told" "$work/errors")"
 echo "demo: the command without rt, and with a crate that is not proved"

@@ -176,6 +176,13 @@ fn run(rt: &(impl Files + Print + Eprint), path: &str) -> io::Result<()> {
     judged(rt, path, &bytes[..n])
 }
 
+// A name that is not UTF-8, as that of a file that can't be opened: paths are text.
+fn not_opened(rt: &(impl Print + Eprint), i: usize, name: &[u8]) -> io::Result<()> {
+    rt.write_all(name)?;
+    print!(rt; " ")?;
+    eprintln!(rt; "argument {i}: the name is not UTF-8")
+}
+
 // The circuit that argument i names, and whether there is one.
 fn run_arg(rt: &(impl Env + Files + Print + Eprint), i: usize) -> io::Result<bool> {
     let mut path = [0u8; 4096];
@@ -185,10 +192,10 @@ fn run_arg(rt: &(impl Env + Files + Print + Eprint), i: usize) -> io::Result<boo
         Err(FillError::TooLong) => 0,
         Err(FillError::NotPresent) => return Ok(false),
     };
-    let Ok(path) = str::from_utf8(&path[..n]) else {
-        return Err(io::Error::new(io::ErrorKind::InvalidInput, "a name is not UTF-8"));
-    };
-    run(rt, path)?;
+    match str::from_utf8(&path[..n]) {
+        Ok(name) => run(rt, name)?,
+        Err(_) => not_opened(rt, i, &path[..n])?,
+    }
     Ok(true)
 }
 

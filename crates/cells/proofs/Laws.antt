@@ -39,6 +39,9 @@ pub ending-past : (s : List ℕ) (i : ℕ) → length s ≤ i → ending (drop i
 unfolding ending starts none
 ending-past s i h = rw (drop_of_length-le s h)
 
+-- what the code of `ending_at` is proved by
+pub ruleset endings = (ending_at, ending-past)
+
 -- ## The two scans
 
 pub plain-stop : (l : List ℕ) → stops l ≡ true → plain_size l ≡ 0

@@ -47,6 +47,7 @@ fn byte_is(s: &[u8], i: usize, b: u8) -> bool
 }
 
 // How a cell ends whose text ends at e.
+#[tactic(auto, using(crate::proofs::Laws::endings))]
 fn ending_at(s: &[u8], e: usize) -> u8
     ensures { result ≡ ending (drop e s.now) }
 {
