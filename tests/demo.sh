@@ -4,6 +4,7 @@
 source "$(dirname "${BASH_SOURCE[0]}")/host.bash"
 need python3 python3
 need cmp diffutils
+need tar tar
 need_c
 need_archive
 build_demo
@@ -136,7 +137,7 @@ echo "demo: wrong circuits, files and words"
 
 # The command in a clone without an archive, where rt is missing, and where it proves one crate and not the next.
 mkdir "$work/commands" "$work/clone"
-cp -r demo tests crates.txt crates "$work/clone" || exit 1
+tar -cf - --exclude='crates/*/out' demo tests crates.txt crates | tar -xf - -C "$work/clone" || exit 1
 IFS=: read -ra folders <<<"$PATH"
 for folder in "${folders[@]}"; do
     ln -s "$folder"/* "$work/commands" 2>/dev/null
@@ -149,7 +150,6 @@ in_clone
 [ $? -eq 2 ] && grep -q 'the Rattle toolchain is needed to prove the archive, and its command rt is not found' "$work/errors" || wrong "without rt: $(cat "$work/told" "$work/errors")"
 cat >"$work/commands/rt" <<'END'
 #!/bin/sh
-echo 'rt: words: begins with what a check kept in a folder'
 echo 'rt: chose --jobs 2 for words'
 echo 'fn words::both: proved'
 echo 'crate words: modules loaded=1 checked=0'

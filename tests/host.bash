@@ -62,12 +62,12 @@ need_rt() {
     command -v rt >/dev/null 2>&1 || { echo "host: the Rattle toolchain is needed to prove the $1, and its command rt is not found" >&2 && exit 2; }
 }
 
-# Makes the archive where it is missing or older than a source. SERIFDOVE_ARCHIVE names another one, taken as it is.
+# Makes the archive, for every x86-64, where it is missing or older than a source. SERIFDOVE_ARCHIVE names another one, taken as it is.
 need_archive() {
     if [ -z "${SERIFDOVE_ARCHIVE:-}" ] && is_stale "$archive"; then
         need_rt archive
-        echo "host: rt lib, in crates/serifdove"
-        (cd crates/serifdove && rt lib) 2>&1 </dev/null | tee "$work/archive" | show_progress
+        echo "host: rt lib --cpu=x86-64, in crates/serifdove"
+        (cd crates/serifdove && rt lib --cpu=x86-64) 2>&1 </dev/null | tee "$work/archive" | show_progress
         [ "${PIPESTATUS[0]}" -eq 0 ] || { cat "$work/archive" && exit 1; }
     fi
     [ -f "$archive" ] || { echo "host: there is no $archive" && exit 1; }

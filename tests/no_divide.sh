@@ -27,7 +27,8 @@ routines() {
 signs() {
     cat "$@" >/dev/null || exit 2
     perl -CSD -Mutf8 -0777 -ne '
-        s{"(?:\\.|[^"\\])*"|\x27(?:\\.|[^\x27\\])\x27|/\*.*?\*/|//[^\n]*|\b(?:requires|ensures)\*?(?: \w+)? (\{(?:[^{}]|(?1))*\})|^ghost use [^;]*;|^#include [^\n]*}{ $& =~ tr/\n//cdr }gmse;
+        s{"(?:\\.|[^"\\])*"|\x27(?:\\.|[^\x27\\])\x27|/\*.*?\*/|//[^\n]*|^ghost use [^;]*;|^#include [^\n]*}{ $& =~ tr/\n//cdr }gmse;
+        s{^ *(?:requires|ensures)\*?(?: \w+)? (\{(?:[^{}]|(?1))*\})}{ $& =~ tr/\n//cdr }gmse;
         my $at = 0;
         for (split /\n/) { $at++; if (m{[/%]|\b(\w+_)?(div|rem)(_\w+)?\(}) { print "$ARGV:$at: $_\n"; $found = 1 } }
         END { exit !$found }' "$@"
@@ -80,6 +81,20 @@ for line in 'let q = n / 100;' '(bits % 256) as u8' 'q /= 2;' 'q %= 2; // q % 2'
     printf 'fn small(n: u32) -> u32\n    requires { n ≡ n }\n    ensures equals { result ≡ f { x = n } }\n{\n    %s\n}\n' "$line" >"$work/small.rt"
     finds_in signs "$work/small.rt" "a line of code"
 done
+cat >"$work/small.rt" <<'CODE'
+fn small(n: u32) -> u32
+    requires { "{" ≡ f n } // {
+{
+    if n < 2 { return n / 2 } // }
+    n
+}
+
+fn other(n: u32) -> u32
+    ensures { "}" ≡ f result }
+CODE
+finds_in signs "$work/small.rt" "code between clauses with open braces in literals and comments"
+printf 'fn small(n: u32) -> u32 {\n    if requires { n / 100 } else { 0 }\n}\n' >"$work/small.rt"
+finds_in signs "$work/small.rt" "a block behind a word of clauses"
 cat >"$work/small.rt" <<'CODE'
 ghost use Rattle.std.specs.Prelude.{
     ◌/◌, ◌%◌,
