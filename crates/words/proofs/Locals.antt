@@ -20,11 +20,11 @@ read w z = to_z w (of_z w z)
 pub back : {w : Width} {z : ℤ} → SFits w z → read w z ≡ z
 back = to_z-of_z
 
--- of a call's signed result: `back-ok c.f.result c.f.ok`
+-- of a call's signed result: `back-ok c.f.result c.f.type_inv`
 pub back-ok : (z : ℤ) → mag z < 2 ^ 31 → read w32 z ≡ z
 back-ok z h = to_z-of_z {w = w32} {z = z} (record { sfits = h })
 
--- a call's signed result is passed on or returned: `back_to c.f.result c.f.ok c.f.ensures`
+-- a call's signed result is passed on or returned: `back_to c.f.result c.f.type_inv c.f.ensures`
 pub back_to : (z : ℤ) {y : ℤ} → mag z < 2 ^ 31 → z ≡ y → read w32 z ≡ y
 back_to z h e = back-ok z h ∙ e
 
@@ -34,7 +34,7 @@ le-back f g e = simp (back f, back g) at e
 pub lt_back : {w : Width} {a b : ℤ} {t : Bool} → SFits w a → SFits w b → lt_z (read w a) (read w b) ≡ t → lt_z a b ≡ t
 lt_back f g e = simp (back f, back g) at e
 
--- the test of the sign, `x < 0`, held or failed: `below c.fits.x c.if1.taken`
+-- the test of the sign, `x < 0`, held or failed: `below c.ranges.x c.if-x.true`
 pub below : {x : ℤ} → SFits w32 x → lt_z (read w32 x) (pos 0) ≡ true → over x < under x
 below {x} f e = omega (arith, lt_z-true x (pos 0) (simp (back f) at e))
 
@@ -45,7 +45,7 @@ not-below {x} f e = omega (arith, lt_z-false x (pos 0) (simp (back f) at e))
 pub bits-same : {w : Width} {a b : ℤ} → SFits w a → SFits w b → of_z w a ≡ of_z w b → a ≡ b
 bits-same {w} f g e = sym (back f) ∙ ap (to_z w) e ∙ back g
 
--- what a call of `within` says of the number itself, its answer known: `said l g c.fits.x c.within.ensures c.if1.taken`
+-- what a call of `within` says of the number itself, its answer known: `said l g c.ranges.x c.within.ensures c.if-within.true`
 pub said : {x : ℤ} (l g : ℤ) {r t : Bool} → SFits w32 x → r ≡ is_within (read w32 x) l g → r ≡ t → is_within x l g ≡ t
 said l g f e p = simp (back f) at (sym e ∙ p)
 

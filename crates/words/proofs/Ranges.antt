@@ -1,5 +1,5 @@
--- What `search` is handed to close what signed code asks: `search (needs, whole)`. A sum, a difference, a product or a
--- quotient fits 32 bits where each operand lies between two literals (`Between`, in what the need is handed) and the
+-- What `search` is handed to close what signed code asks: `search (rules, whole)`. A sum, a difference, a product or a
+-- quotient fits 32 bits where each operand lies between two literals (`Between`, in what the goal is handed) and the
 -- literals leave room, which computes. Assumes nothing.
 use mathlib.Core.Path.{◌≡◌}
 use Prim.Native.Nat.{ℕ, zero, suc, zero-le, max, ◌+◌, ◌*◌, ◌/◌, ◌^◌, ◌≤◌}
