@@ -35,7 +35,7 @@ fn time_of(kind: Kind, j: usize, params: [i32; 4]) -> Ticks
 }
 
 // A block's parameters, made ready.
-#[tactic(auto, unfolding(crate::specs::Blocks::prepared))]
+#[tactic(auto, using(crate::proofs::Ready::differences), unfolding(crate::specs::Blocks::prepared))]
 pub fn prepare(kind: Kind, params: [i32; 4]) -> Prepared
     requires { allowed (byte_of kind) params ≡ true }
     ensures { result ≡ prepared (byte_of kind) params }
@@ -198,7 +198,7 @@ fn amplify_block(analog: [i32; 2], p: Prepared) -> BlockWords
 }
 
 // What a block's three words become, by its kind: from its digital and analog inputs, resolved together, its parameters, its words and e.
-#[tactic(auto, unfolding(crate::specs::Blocks::worked_out, crate::specs::Blocks::rules))]
+#[tactic(auto, using(crate::proofs::Ready::by_register), unfolding(crate::specs::Blocks::worked_out, crate::specs::Blocks::rules))]
 pub fn worked_out(
     kind: Kind,
     bits: [bool; 4],

@@ -1,30 +1,19 @@
 -- `blocks::worked_out` meets its contract: what each rule counts on follows from the kind. Assumes nothing.
-use mathlib.Core.Path.{ap}
-use Rattle.kinds.specs.Codes.{byte_of}
-use Rattle.kinds.specs.Kinds.{kind_of, kinds, scaled}
 use Rattle.blocks.specs.Blocks.{rules, worked_out}
-use Rattle.blocks.proofs.Ready.{scaling, indexing}
+use Rattle.blocks.proofs.Ready.{by_threshold, by_comparator, by_differential, by_amplifier}
 use Rattle.blocks.proofs.worked_out.Goals as goal
 
-pub shift_block-requires : goal.shift_block-requires
-unfolding kind_of kinds
-shift_block-requires c = indexing c.requires.0 (ap (λ k. (kind_of (byte_of k)).parameters) c.in-ShiftRegister.is)
-
 pub trigger_block-requires : goal.trigger_block-requires
-unfolding kind_of kinds scaled
-trigger_block-requires c = (c.requires.1, scaling c.requires.0 _ (ap (λ k. (kind_of (byte_of k)).parameters) c.in-ThresholdTrigger.is))
+trigger_block-requires c = (c.requires.1, by_threshold _ _ c.requires.0 c.in-ThresholdTrigger.is)
 
 pub compare_block-requires : goal.compare_block-requires
-unfolding kind_of kinds scaled
-compare_block-requires c = (c.requires.1, scaling c.requires.0 _ (ap (λ k. (kind_of (byte_of k)).parameters) c.in-Comparator.is))
+compare_block-requires c = (c.requires.1, by_comparator _ _ c.requires.0 c.in-Comparator.is)
 
 pub trigger_block-requires-in-DifferentialTrigger : goal.trigger_block-requires-in-DifferentialTrigger
-unfolding kind_of kinds scaled
-trigger_block-requires-in-DifferentialTrigger c = (c.requires.1, scaling c.requires.0 _ (ap (λ k. (kind_of (byte_of k)).parameters) c.in-DifferentialTrigger.is))
+trigger_block-requires-in-DifferentialTrigger c = (c.requires.1, by_differential _ _ c.requires.0 c.in-DifferentialTrigger.is)
 
 pub amplify_block-requires : goal.amplify_block-requires
-unfolding kind_of kinds
-amplify_block-requires c = (c.requires.1, scaling c.requires.0 _ (ap (λ k. (kind_of (byte_of k)).parameters) c.in-Amplifier.is))
+amplify_block-requires c = (c.requires.1, by_amplifier _ _ c.requires.0 c.in-Amplifier.is)
 
 pub returns-in-AndEdge : goal.returns-in-AndEdge
 unfolding worked_out rules
