@@ -33,6 +33,7 @@ pub enum Kind {
 }
 
 // A byte that names no kind.
+#[derive(Clone, Copy)]
 pub struct UnknownKind;
 
 impl TryFrom<u8> for Kind {
