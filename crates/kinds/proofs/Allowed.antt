@@ -31,10 +31,6 @@ longest-most : (base : ℕ) → le_z (pos (longest base)) (pos 9999) ≡ true
 longest-most zero = refl
 longest-most (suc n) = refl
 
-pub with-true : (a : Bool) → (a && true) ≡ a
-with-true true = refl
-with-true false = refl
-
 four : (a b c d : Bool) → (a && (b && (c && d))) ≡ true → (a ≡ true) × (b ≡ true) × (c ≡ true) × (d ≡ true)
 four a b c d e =
     let f = and-true a (b && (c && d)) e in
