@@ -11,10 +11,7 @@ use rules::BlockWords;
 fn trg_and_running(trg: bool, running: bool) -> i32
     ensures { result ≡ trg_and_running trg running }
 {
-    if running {
-        return if trg { 3 } else { 2 };
-    }
-    words::word_of(trg)
+    trg as i32 + 2 * running as i32
 }
 
 // Its words: Q, Trg, whether it runs, Ta.
@@ -22,11 +19,11 @@ fn stood(q: bool, trg: bool, running: bool, ta: u32) -> BlockWords
     requires { ta < 2 ^ 31 }
     ensures { result ≡ stands q trg running ta }
 {
-    rules::three_of(
-        words::word_of(q),
-        trg_and_running(trg, running),
-        words::word_of_count(ta),
-    )
+    BlockWords {
+        output: q as i32,
+        remembered: trg_and_running(trg, running),
+        number: ta as i32,
+    }
 }
 
 // Whether the light is out as a warning.
@@ -44,12 +41,14 @@ fn dimmed(ta: Ticks, t: Ticks, warning: Ticks, dark: Ticks) -> BlockWords
     ensures { result ≡ dims ta t warning dark }
 {
     if ta.0 == t.0 {
-        return stood(false, false, false, 0);
+        stood(false, false, false, 0)
+    } else {
+        stood(!is_dark(ta, t, warning, dark), false, true, ta.0)
     }
-    stood(!is_dark(ta, t, warning, dark), false, true, ta.0)
 }
 
 // Kind 18, stairway switch.
+#[tactic(auto, unfolding(rules::specs::Rules::stairway_switch))]
 pub fn stairway_switch(
     trg: bool,
     was: bool,
@@ -63,17 +62,11 @@ pub fn stairway_switch(
     requires { (ta.0 < 2 ^ 31) × (t.0 < 2 ^ 31) × (warning.0 ≤ t.0) × (dark.0 ≤ t.0) × (e.0 < 2 ^ 31) }
     ensures { result ≡ stairway_switch trg was ran ta t warning dark e }
 {
-    if trg {
-        if was {
-            return stood(ran, true, ran, 0);
-        }
-        return stood(true, true, true, 0);
+    match (trg, was, ran) {
+        (true, false, _) => stood(true, true, true, 0),
+        (true, true, _) => stood(ran, true, ran, 0),
+        (false, _, false) => stood(false, false, false, 0),
+        (false, true, true) => dimmed(Ticks(0), t, warning, dark),
+        (false, false, true) => dimmed(rules::grown_to(ta, t, e), t, warning, dark),
     }
-    if ran {
-        if was {
-            return dimmed(Ticks(0), t, warning, dark);
-        }
-        return dimmed(rules::grown_to(ta, t, e), t, warning, dark);
-    }
-    stood(false, false, false, 0)
 }
