@@ -19,24 +19,17 @@ const RECORD: usize = 1364;
 
 // 32 input words: I1 is 1, the others are 1 in every second scan; the analog ones are as told.
 fn reading(scan: u32, analog: i32) -> [i32; 32] {
-    let mut inputs = [words::word_of(scan % 2 == 0); 32];
+    let mut inputs = [(scan % 2 == 0) as i32; 32];
     inputs[0] = 1;
-    inputs[24] = analog;
-    inputs[25] = analog;
-    inputs[26] = analog;
-    inputs[27] = analog;
-    inputs[28] = analog;
-    inputs[29] = analog;
-    inputs[30] = analog;
-    inputs[31] = analog;
+    inputs[24..].fill(analog);
     inputs
 }
 
 // 32 input words: I1 is 1 in the first two scans, I2 in every second from the first on; the others are 0.
 fn short_reading(scan: u32) -> [i32; 32] {
     let mut inputs = [0i32; 32];
-    inputs[0] = words::word_of(scan <= 2);
-    inputs[1] = words::word_of(scan % 2 == 1);
+    inputs[0] = (scan <= 2) as i32;
+    inputs[1] = (scan % 2 == 1) as i32;
     inputs
 }
 
