@@ -145,7 +145,10 @@ fn misfit(
     if answer.number == 9 {
         return destination_at(rt, bytes, place);
     }
-    print!(rt; "a connector names a flag above M{} or AM{}", limits.m, limits.am)
+    print!(rt;
+        "a connector names a flag above M{} or AM{}",
+        limits.m, limits.am
+    )
 }
 
 // Whether it fits, in words.
