@@ -209,55 +209,62 @@ pub fn grown_to(ta: Ticks, t: Ticks, e: Ticks) -> Ticks
     Ticks(t.0.min(ta.0 + e.0))
 }
 
+// A time that runs: the ticks run, those set, and those since the last latch.
+#[derive(Clone, Copy)]
+pub struct Run {
+    pub ta: Ticks,
+    pub t: Ticks,
+    pub e: Ticks,
+    pub ghost in_words: { (ta.0 < 2 ^ 31) × (t.0 < 2 ^ 31) × (e.0 < 2 ^ 31) },
+}
+
+impl Run {
+    // The ticks run with those since the last latch.
+    pub fn grown(self) -> Ticks
+        ensures { (result ≡ grown self.ta self.t self.e) × (result.0 < 2 ^ 31) }
+    {
+        grown_to(self.ta, self.t, self.e)
+    }
+}
+
 // Kind 9, on-delay.
 #[tactic(auto, unfolding(crate::specs::Rules::on_delay))]
-pub fn on_delay(trg: bool, was: bool, ta: Ticks, t: Ticks, e: Ticks) -> BlockWords
-    requires { (ta.0 < 2 ^ 31) × (t.0 < 2 ^ 31) × (e.0 < 2 ^ 31) }
-    ensures { result ≡ on_delay trg was ta t e }
+pub fn on_delay(trg: bool, was: bool, run: Run) -> BlockWords
+    ensures { result ≡ on_delay trg was run.ta run.t run.e }
 {
     match (trg, was) {
         (false, _) => BlockWords::digital(false, false, 0),
-        (true, false) => BlockWords::digital(0 == t.0, true, 0),
+        (true, false) => BlockWords::digital(0 == run.t.0, true, 0),
         (true, true) => {
-            let run = grown_to(ta, t, e);
-            BlockWords::digital(run.0 == t.0, true, run.0)
+            let ta = run.grown();
+            BlockWords::digital(ta.0 == run.t.0, true, ta.0)
         }
     }
 }
 
 // The off-delay with Q 1 and Trg 0, now and in the last scan.
-fn fading(ta: Ticks, t: Ticks, e: Ticks) -> BlockWords
-    requires { (ta.0 < 2 ^ 31) × (t.0 < 2 ^ 31) × (e.0 < 2 ^ 31) }
-    ensures { result ≡ fades (grown ta t e) t }
+fn fading(run: Run) -> BlockWords
+    ensures { result ≡ fades (grown run.ta run.t run.e) run.t }
 {
-    let run = grown_to(ta, t, e);
-    if run.0 == t.0 {
+    let ta = run.grown();
+    if ta.0 == run.t.0 {
         BlockWords::digital(false, false, 0)
     } else {
-        BlockWords::digital(true, false, run.0)
+        BlockWords::digital(true, false, ta.0)
     }
 }
 
 // Kind 10, off-delay: a rise of Trg sets Q; while Trg stays 1, Q stays.
 #[tactic(auto, unfolding(crate::specs::Rules::off_delay))]
-pub fn off_delay(
-    r: bool,
-    trg: bool,
-    was: bool,
-    q: bool,
-    ta: Ticks,
-    t: Ticks,
-    e: Ticks,
-) -> BlockWords
-    requires { (ta.0 < 2 ^ 31) × (t.0 < 2 ^ 31) × (e.0 < 2 ^ 31) }
-    ensures { result ≡ off_delay r trg was q ta t e }
+pub fn off_delay(r: bool, trg: bool, was: bool, q: bool, run: Run) -> BlockWords
+    ensures { result ≡ off_delay r trg was q run.ta run.t run.e }
 {
     match (r, trg, was, q) {
         (true, ..) => BlockWords::digital(false, trg, 0),
         (false, true, ..) => BlockWords::digital(!was | q, true, 0),
-        (false, false, true, _) => BlockWords::digital(q & (0 < t.0), false, 0),
-        (false, false, false, true) => fading(ta, t, e),
-        (false, false, false, false) => BlockWords::digital(false, false, ta.0),
+        (false, false, true, _) => BlockWords::digital(q & (0 < run.t.0), false, 0),
+        (false, false, false, true) => fading(run),
+        (false, false, false, false) => BlockWords::digital(false, false, run.ta.0),
     }
 }
 
