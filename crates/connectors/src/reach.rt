@@ -7,15 +7,15 @@ ghost use Rattle.connectors.specs.Named.{six_or_seven};
 use crate::class::{Class, Spot};
 use refusals::{Limits, Refusal};
 
-// What a connector is judged by: the limits, the number of blocks, the number of the block whose input it is (n + 1 in a row), and which
-// of the blocks before that are analog.
+// What a connector is judged by: the limits, the number of blocks that the header says, how many stand before the connector's block or
+// row, and which of these are analog.
 #[derive(Clone, Copy)]
 pub struct Reach<'a> {
     pub limits: Limits,
     pub n: usize,
-    pub own: usize,
+    pub blocks: usize,
     pub sorts: &'a [bool; 400],
-    ghost own_in: { own ≤ 401 },
+    ghost in_sorts: { blocks ≤ 400 },
 }
 
 impl Reach<'_> {
@@ -34,7 +34,7 @@ impl Reach<'_> {
     // A connector's class byte and number.
     #[tactic(auto, unfolding(crate::specs::Named::six_or_seven, crate::specs::Connectors::wrong, crate::specs::Connectors::wrong_sort, crate::specs::Connectors::later))]
     fn judge_parts(&self, spot: Spot, byte: u8, number: usize) -> Result<(), Refusal>
-        ensures { number_in result ≡ six_or_seven (wrong self.now.limits (spot_code spot) self.now.own self.now.n self.now.sorts.now (record { class = byte; number = number })) (later self.now.own (record { class = byte; number = number })) }
+        ensures { number_in result ≡ six_or_seven (wrong self.now.limits (spot_code spot) (self.now.blocks + 1) self.now.n self.now.sorts.now (record { class = byte; number = number })) (later (self.now.blocks + 1) (record { class = byte; number = number })) }
     {
         let class = Class::try_from(byte & 127)?;
         if !self.allows(spot, class, byte, number) {
@@ -43,7 +43,7 @@ impl Reach<'_> {
         if !class.names_block() {
             return Ok(());
         }
-        if self.own <= number {
+        if self.blocks < number {
             return Err(Refusal::OwnOrLaterBlock);
         }
         if !spot.has_sort() {
@@ -58,7 +58,7 @@ impl Reach<'_> {
     // The connector at a place of the bytes.
     pub fn judge(&self, bytes: &[u8], at: usize, spot: Spot) -> Result<(), Refusal>
         requires { at + 3 ≤ length bytes.now }
-        ensures { number_in result ≡ six_or_seven (wrong self.now.limits (spot_code spot) self.now.own self.now.n self.now.sorts.now (connector_at bytes.now at)) (later self.now.own (connector_at bytes.now at)) }
+        ensures { number_in result ≡ six_or_seven (wrong self.now.limits (spot_code spot) (self.now.blocks + 1) self.now.n self.now.sorts.now (connector_at bytes.now at)) (later (self.now.blocks + 1) (connector_at bytes.now at)) }
     {
         self.judge_parts(spot, bytes[at], words::two_at(bytes, at + 1))
     }
@@ -72,7 +72,7 @@ impl Reach<'_> {
         spot: Spot,
     ) -> Result<(), Refusal>
         requires { at + 3 * count ≤ length bytes.now }
-        ensures { number_in result ≡ six_or_seven (any_of (wrong self.now.limits (spot_code spot) self.now.own self.now.n self.now.sorts.now) (connectors_at bytes.now at count)) (any_of (later self.now.own) (connectors_at bytes.now at count)) }
+        ensures { number_in result ≡ six_or_seven (any_of (wrong self.now.limits (spot_code spot) (self.now.blocks + 1) self.now.n self.now.sorts.now) (connectors_at bytes.now at count)) (any_of (later (self.now.blocks + 1)) (connectors_at bytes.now at count)) }
     {
         let mut is_later = false;
         for j in 0..count {

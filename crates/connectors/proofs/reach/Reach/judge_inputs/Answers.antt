@@ -15,20 +15,20 @@ returns-in_default-refusal c =
     let a = c.args in
     let s = a.self.now in
     with-wrong _ _ _ _ _ _ c.in-Err.ensures c.in_default-refusal.not-OwnOrLaterBlock
-    ∙ sym (one-more s.limits (spot_code a.spot) s.own s.n s.sorts.now a.bytes.now a.at a.count c.loop-j.is_later c.loop-j.j c.loop-j-test.true)
+    ∙ sym (one-more s.limits (spot_code a.spot) (s.blocks + 1) s.n s.sorts.now a.bytes.now a.at a.count c.loop-j.is_later c.loop-j.j c.loop-j-test.true)
     ∙ c.loop-j.invariant
-    ∙ from-all s.limits (spot_code a.spot) s.own s.n s.sorts.now a.bytes.now a.at a.count
+    ∙ from-all s.limits (spot_code a.spot) (s.blocks + 1) s.n s.sorts.now a.bytes.now a.at a.count
 
 pub loop-j-preserved : goal.loop-j-preserved
 loop-j-preserved c =
     let a = c.args in
     let s = a.self.now in
-    let left = sym (one-more s.limits (spot_code a.spot) s.own s.n s.sorts.now a.bytes.now a.at a.count c.loop-j.is_later c.loop-j.j c.loop-j-test.true) ∙ c.loop-j.invariant in
+    let left = sym (one-more s.limits (spot_code a.spot) (s.blocks + 1) s.n s.sorts.now a.bytes.now a.at a.count c.loop-j.is_later c.loop-j.j c.loop-j-test.true) ∙ c.loop-j.invariant in
     elim c.match-judge.branch [
       | in-Err+in-OwnOrLaterBlock w ↦
           let e = ap number_of (sym w.in-OwnOrLaterBlock.is) ∙ w.in-Err.ensures in
-          ap (λ (x : Bool). number_from s.limits (spot_code a.spot) s.own s.n s.sorts.now a.bytes.now a.at a.count x (c.loop-j.j + 1)) w.is_later-is ∙ with-later _ _ _ _ c.loop-j.is_later e ∙ left
-      | in_default w ↦ ap (λ (x : Bool). number_from s.limits (spot_code a.spot) s.own s.n s.sorts.now a.bytes.now a.at a.count x (c.loop-j.j + 1)) w.is_later-is ∙ with-none _ _ _ _ c.loop-j.is_later w.in_default.ensures ∙ left
+          ap (λ (x : Bool). number_from s.limits (spot_code a.spot) (s.blocks + 1) s.n s.sorts.now a.bytes.now a.at a.count x (c.loop-j.j + 1)) w.is_later-is ∙ with-later _ _ _ _ c.loop-j.is_later e ∙ left
+      | in_default w ↦ ap (λ (x : Bool). number_from s.limits (spot_code a.spot) (s.blocks + 1) s.n s.sorts.now a.bytes.now a.at a.count x (c.loop-j.j + 1)) w.is_later-is ∙ with-none _ _ _ _ c.loop-j.is_later w.in_default.ensures ∙ left
     ]
 
 pub returns-then-is_later : goal.returns-then-is_later
@@ -37,9 +37,9 @@ returns-then-is_later c =
     let a = c.args in
     let s = a.self.now in
     sym (ap (λ (x : Bool). six_or_seven false x) c.if-is_later.true)
-    ∙ sym (from-none s.limits (spot_code a.spot) s.own s.n s.sorts.now a.bytes.now a.at a.count c.loop-j.is_later c.loop-j.j (omega arith))
+    ∙ sym (from-none s.limits (spot_code a.spot) (s.blocks + 1) s.n s.sorts.now a.bytes.now a.at a.count c.loop-j.is_later c.loop-j.j (omega arith))
     ∙ c.loop-j.invariant
-    ∙ from-all s.limits (spot_code a.spot) s.own s.n s.sorts.now a.bytes.now a.at a.count
+    ∙ from-all s.limits (spot_code a.spot) (s.blocks + 1) s.n s.sorts.now a.bytes.now a.at a.count
 
 pub returns : goal.returns
 unfolding six_or_seven
@@ -47,6 +47,6 @@ returns c =
     let a = c.args in
     let s = a.self.now in
     sym (ap (λ (x : Bool). six_or_seven false x) c.if-is_later.false)
-    ∙ sym (from-none s.limits (spot_code a.spot) s.own s.n s.sorts.now a.bytes.now a.at a.count c.loop-j.is_later c.loop-j.j (omega arith))
+    ∙ sym (from-none s.limits (spot_code a.spot) (s.blocks + 1) s.n s.sorts.now a.bytes.now a.at a.count c.loop-j.is_later c.loop-j.j (omega arith))
     ∙ c.loop-j.invariant
-    ∙ from-all s.limits (spot_code a.spot) s.own s.n s.sorts.now a.bytes.now a.at a.count
+    ∙ from-all s.limits (spot_code a.spot) (s.blocks + 1) s.n s.sorts.now a.bytes.now a.at a.count
