@@ -21,7 +21,10 @@ use Rattle.decoding.specs.declared.field.Field.{Field}
 use Rattle.decoding.specs.declared.known.Known.{Known}
 use Rattle.circuit.specs.Read.{Reads}
 use Rattle.circuit.specs.Judged.{Accepts, Answers, Says}
-use Rattle.circuit.specs.declared.Refused.{Refused}
+use Rattle.refusals.specs.declared.Refused.{Refused}
+use Rattle.refusals.specs.declared.Refusal.TheVariants.{SurplusBytes}
+use Rattle.refusals.specs.Refusals.{number_of}
+use Rattle.refusals.proofs.Numbers.{number-above}
 use Rattle.refusals.proofs.Tests.{or-false}
 use Rattle.circuit.proofs.Tags.{whole-iff, of-header, of-block, of-label, of_row, of_end, of_other}
 
@@ -137,8 +140,8 @@ module _ (f : ℕ) (limits : Limits) (s : List ℕ) (at : ℕ) (st : State) wher
 
 -- ---- what is said of a result
 
-pub says-err : (limits : Limits) (s : List ℕ) (e : Refused) (known : Known) → verdict_at limits s ≡ refused e.refusal e.place → Says limits s (Err e) known
-says-err limits s e known v = record { refuses = λ x q. let p : e ≡ x = cc in v ∙ ap (λ (y : Refused). refused y.refusal y.place) p; accepts = λ q. cc }
+pub says-err : (limits : Limits) (s : List ℕ) (e : Refused) (known : Known) → verdict_at limits s ≡ refused (number_of e.refusal) e.place → Says limits s (Err e) known
+says-err limits s e known v = record { refuses = λ x q. let p : e ≡ x = cc in v ∙ ap (λ (y : Refused). refused (number_of y.refusal) y.place) p; accepts = λ q. cc }
 
 pub says-ok : (limits : Limits) (s : List ℕ) (known : Known) → Accepts limits s (head_of known) known.offsets → Says limits s (Ok tt) known
 says-ok limits s known a = record { refuses = λ x q. cc; accepts = λ q. a }
@@ -164,9 +167,9 @@ module _ (limits : Limits) (s : List ℕ) (at : ℕ) (seen : Seen) (w : Reached 
   going : (seen.head.stage ≡ ended → ⊥) → w.st.stage ≡ ended → ⊥
   going ne e = ne (w.holds.stage ∙ e)
 
-  module _ (r : Judged) (ne : seen.head.stage ≡ ended → ⊥) (j : Answers limits s at seen r) where
+  module _ (r : Judged) (ne : seen.head.stage ≡ ended → ⊥) (l : List ℕ) (same : l ≡ s) (j : Answers limits l at seen r) where
     step : Judges limits s (field_number limits s at w.st) (next_at s at) (taken s at w.st) r
-    step = j w.st w.holds
+    step = subst (λ (x : List ℕ). Answers limits x at seen r) same j w.st w.holds
 
     module _ (z : r.number ≡ 0) where
       fits : next_at s at ≤ length s
@@ -193,12 +196,15 @@ module _ (limits : Limits) (s : List ℕ) (at : ℕ) (seen : Seen) (w : Reached 
                     ∙ ap (λ (i : ℕ). walk f limits s i (taken s at w.st)) (sym (step.next-is z));
               }
 
-    pub says-refused : (known : Known) → (r.number ≡ 0 → ⊥) → Says limits s (Err (record { refusal = r.number; place = at })) known
-    says-refused known nz = says-err limits s _ known (go w.fuel w.enough w.same)
+    pub says-refused : (known : Known) (e : Refused) → e.place ≡ at → r.number ≡ number_of e.refusal → Says limits s (Err e) known
+    says-refused known e p q = says-err limits s e known (go w.fuel w.enough w.same)
       where
-        go : (f : ℕ) → length s - at < f → verdict_at limits s ≡ walk f limits s at w.st → verdict_at limits s ≡ refused r.number at
-        go zero l e = let x : ⊥ = omega arith in absurd x
-        go (suc f) l e = e ∙ walk_refused f limits s at w.st (going ne) r.number step.number_is nz
+        some : r.number ≡ 0 → ⊥
+        some z = let h = number-above e.refusal in omega arith
+
+        go : (f : ℕ) → length s - at < f → verdict_at limits s ≡ walk f limits s at w.st → verdict_at limits s ≡ refused (number_of e.refusal) e.place
+        go zero l v = let x : ⊥ = omega arith in absurd x
+        go (suc f) l v = v ∙ walk_refused f limits s at w.st (going ne) r.number step.number_is some ∙ ap₂ refused q (sym p)
 
   at-end : seen.head.stage ≡ ended → verdict_at limits s ≡ closing s at w.st
   at-end four = go w.fuel w.enough w.same
@@ -207,11 +213,11 @@ module _ (limits : Limits) (s : List ℕ) (at : ℕ) (seen : Seen) (w : Reached 
       go zero l e = let x : ⊥ = omega arith in absurd x
       go (suc f) l e = e ∙ walk-ended f limits s at w.st (sym w.holds.stage ∙ four)
 
-  pub says-surplus : seen.head.stage ≡ ended → at < length s → (known : Known) → Says limits s (Err (record { refusal = 11; place = at })) known
+  pub says-surplus : seen.head.stage ≡ ended → at < length s → (known : Known) (e : Refused) → e ≡ record { refusal = SurplusBytes; place = at } → Says limits s (Err e) known
   unfolding closing
-  says-surplus four h known =
-      let e : closing s at w.st ≡ refused 11 at = simp (lt-ltb _ _ h) in
-      says-err limits s _ known (at-end four ∙ e)
+  says-surplus four h known e is =
+      let behind : closing s at w.st ≡ refused 11 at = simp (lt-ltb _ _ h) in
+      says-err limits s e known (at-end four ∙ behind ∙ ap (λ (x : Refused). refused (number_of x.refusal) x.place) (sym is))
 
   pub accepts-all : seen.head.stage ≡ ended → length s ≤ at → Accepts limits s seen.head seen.offsets
   unfolding closing

@@ -1,12 +1,13 @@
 -- What `judge` hands to the calls. Not part of what a reader has to believe.
 use Rattle.std.specs.Prelude.{ℕ, ◌+◌, ◌*◌, ◌≤◌, ◌<◌, ◌≡◌, List, map, length, get_or, take, Result, Ok, Err}
 use Rattle.refusals.specs.declared.Limits.{Limits}
+use Rattle.refusals.specs.declared.Refused.{Refused}
+use Rattle.refusals.specs.Refusals.{number_of}
 use Rattle.blockfield.specs.Marked.{Lies}
 use Rattle.decoding.specs.Decoded.{Circuit, State, next_at, block_at}
 use Rattle.decoding.specs.Held.{bare, rows_at, Head, Seen, Judged, Holds, Judges, head_of}
 use Rattle.decoding.specs.declared.known.Known.{Known}
 use Rattle.circuit.specs.Circuit.{field_number, taken, verdict_at, refused, accepted}
-use Rattle.circuit.specs.declared.Refused.{Refused}
 
 -- for every state that is held, the field at a place is told by its number, and what is held then is the state with the field added
 abbrev pub Answers : Limits → List ℕ → ℕ → Seen → Judged → Type 0
@@ -29,5 +30,5 @@ pub record Accepts (limits : Limits) (s : List ℕ) (head : Head) (offsets : Lis
 
 -- the verdict, and of an accepted circuit where its blocks and rows stand
 pub record Says (limits : Limits) (s : List ℕ) (r : Result (Unit {0}) Refused) (known : Known) : Type 0 where
-  pub refuses : (e : Refused) → r ≡ Err e → verdict_at limits s ≡ refused e.refusal e.place
+  pub refuses : (e : Refused) → r ≡ Err e → verdict_at limits s ≡ refused (number_of e.refusal) e.place
   pub accepts : r ≡ Ok tt → Accepts limits s (head_of known) known.offsets

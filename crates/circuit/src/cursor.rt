@@ -2,6 +2,7 @@ ghost use Rattle.std.specs.Prelude.{◌≡◌, ◌≤◌, length};
 ghost use Rattle.circuit.specs.Read.{Reads};
 
 use decoding::Field;
+use refusals::Refusal;
 
 // The fields of a circuit from a place on.
 #[derive(Clone, Copy)]
@@ -26,18 +27,18 @@ impl<'a> Fields<'a> {
         self.at
     }
 
-    // The next one, or 1 where the bytes end inside it.
-    pub fn read(&mut self) -> Result<Field<'a>, u8>
+    // The next one, unless the bytes end inside it.
+    pub fn read(&mut self) -> Result<Field<'a>, Refusal>
         ensures same { self.new.bytes.now ≡ self.old.bytes.now }
         ensures reads { Reads self.old.bytes.now self.old.at result self.new.at }
     {
         let left = self.bytes.len() - self.at;
         if left < 3 {
-            return Err(1);
+            return Err(Refusal::CutShort);
         }
         let size = words::two_at(self.bytes, self.at + 1);
         if left - 3 < size {
-            return Err(1);
+            return Err(Refusal::CutShort);
         }
         let field = Field {
             bytes: self.bytes,

@@ -4,8 +4,9 @@
 ghost use Rattle.std.specs.Prelude.{◌≡◌};
 ghost use Rattle.kinds.specs.Table.{kinds_table};
 ghost use Rattle.refusals.specs.Limited.{older};
+ghost use Rattle.refusals.specs.Stages.{ended, stage_of};
 ghost use Rattle.refusals.specs.Modest.{Modest};
-ghost use Rattle.refusals.specs.declared.Limits.{Limits};
+ghost use Rattle.refusals.specs.Answers.{answer_of as result_answer};
 ghost use Rattle.decoding.specs.Held.{Sound, head_of, seen, judged};
 ghost use Rattle.circuit.specs.Circuit.{answer_at, answer_of};
 ghost use Rattle.circuit.specs.Judged.{Answers, Says};
@@ -15,14 +16,7 @@ mod cursor;
 use cursor::Fields;
 use decoding::Known;
 use kinds::KindTable;
-use refusals::{Answer, ENDED, Limits};
-
-// A refusal, and the place of the field, or of the byte, that is refused.
-#[derive(Clone, Copy)]
-pub struct Refused {
-    pub refusal: u8,
-    pub place: usize,
-}
+use refusals::{Answer, Limits, OLDER, OURS, Refusal, Refused, Stage};
 
 // Takes the next field, by its tag.
 fn take_next(
@@ -30,8 +24,8 @@ fn take_next(
     kinds: &KindTable,
     fields: &mut Fields,
     known: &mut Known,
-) -> Result<(), u8>
-    requires { (kinds.now ≡ kinds_table) × Sound (head_of known.old) fields.old.at × Modest limits × (known.old.stage ≡ 4 → ⊥) }
+) -> Result<(), Refusal>
+    requires { (kinds.now ≡ kinds_table) × Sound (head_of known.old) fields.old.at × Modest limits × (stage_of known.old.stage ≡ ended → ⊥) }
     ensures same { fields.new.bytes.now ≡ fields.old.bytes.now }
     ensures answers { Answers limits fields.old.bytes.now fields.old.at (seen known.old) (judged result fields.new.at (seen known.new)) }
 {
@@ -42,7 +36,7 @@ fn take_next(
         0x20 => known.label(field),
         0x30 => known.row(limits, field),
         0x7F => known.end(field),
-        _ => Err(2),
+        _ => Err(Refusal::TagOrLength),
     }
 }
 
@@ -54,41 +48,39 @@ pub fn judge(limits: Limits, circuit: &[u8], known: &mut Known) -> Result<(), Re
     let kinds = kinds::table();
     known.begin();
     let mut fields = Fields::new(circuit);
-    while known.stage != ENDED {
+    while known.stage != Stage::Ended {
         let place = fields.place();
         if let Err(refusal) = take_next(limits, &kinds, &mut fields, known) {
-            return Err(Refused { refusal, place });
+            return Err(refusal.at(place));
         }
     }
     let place = fields.place();
     if place < circuit.len() {
-        return Err(Refused { refusal: 11, place });
+        return Err(Refusal::SurplusBytes.at(place));
     }
     Ok(())
 }
 
-// The answer at some limits: refusal number and place, or blocks and rows.
-fn checked(limits: Limits, circuit: &[u8]) -> Answer
+// How many blocks and rows an accepted circuit has.
+fn counts(limits: Limits, circuit: &[u8]) -> Result<(usize, usize), Refused>
     requires { Modest limits }
-    ensures { result ≡ answer_at limits circuit.now }
+    ensures { result_answer result ≡ answer_at limits circuit.now }
 {
     let mut known = Known::new();
-    match judge(limits, circuit, &mut known) {
-        Ok(()) => refusals::accepted_with(known.n, known.rows),
-        Err(refused) => refusals::refused_at(refused.refusal as usize, refused.place),
-    }
+    judge(limits, circuit, &mut known)?;
+    Ok((known.n, known.rows))
 }
 
 // The answer to a circuit: refusal number and place, or blocks and rows.
 pub fn check(circuit: &[u8]) -> Answer
     ensures { result ≡ answer_of circuit.now }
 {
-    checked(refusals::ours(), circuit)
+    Answer::from(counts(OURS, circuit))
 }
 
 // The same, at the limits of the series 0BA6.
 pub fn check_profile(circuit: &[u8]) -> Answer
     ensures { result ≡ answer_at older circuit.now }
 {
-    checked(refusals::older(), circuit)
+    Answer::from(counts(OLDER, circuit))
 }

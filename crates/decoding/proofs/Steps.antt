@@ -1,4 +1,5 @@
 -- What the pass holds, from field to field. Assumes nothing.
+use Rattle.std.specs.Prelude.{Result, Ok, Err}
 use mathlib.Core.Path.{◌≡◌, refl, ap, ap₂, sym, ◌∙◌, subst}
 use mathlib.Core.Bool.{Bool, true, false, cond, ◌&&◌, ◌||◌}
 use mathlib.Core.List.{List, [], ◌∷◌, ◌++◌, map}
@@ -16,6 +17,9 @@ use Rattle.words.proofs.Bounds.{amount-between, count-is}
 use Rattle.kinds.specs.Kinds.{kinds, kind_of, is_analog, allowed, indexed}
 use Rattle.refusals.specs.Faults.{lowest}
 use Rattle.refusals.specs.Stages.{among_blocks, after_block, among_rows, ended}
+use Rattle.refusals.specs.Refusals.{number_of, number_in as number_told}
+use Rattle.refusals.specs.declared.Refusal.{Refusal}
+use Rattle.refusals.proofs.Numbers.{number-above}
 use Rattle.refusals.specs.Modest.{Modest}
 use Rattle.refusals.specs.declared.Limits.{Limits}
 use Rattle.blockfield.specs.BlockField.{kind_at, parameters_at, signed_at, signeds_at, index_from, shift_register, block_faults}
@@ -152,6 +156,13 @@ module _ (limits : Limits) (s : List ℕ) (at size : ℕ) (seen : Seen) (st : St
 pub refuses : {limits : Limits} {s : List ℕ} {number next : ℕ} {then : State} {r : Judged} → r.number ≡ number → (r.number ≡ 0 → ⊥) → Judges limits s number next then r
 refuses e ne =
     record { number_is = e; next-is = λ z. absurd (ne z); holds = λ z. absurd (ne z); sound = λ z. absurd (ne z) }
+
+-- by a result that is passed on
+pub passes-on : {A : Type 0} {told : Result A Refusal} {r : Result (Unit {0}) Refusal} {refusal : Refusal} {limits : Limits} {s : List ℕ} {number next after : ℕ} {then : State} {seen : Seen}
+    → told ≡ Err refusal → r ≡ Err refusal → number_told told ≡ number → Judges limits s number next then (judged r after seen)
+passes-on {r = r} {refusal = refusal} was is number =
+    let told : number_told r ≡ number_of refusal = ap number_told is in
+    refuses (told ∙ sym (ap number_told was) ∙ number) (λ z. omega (arith, told, number-above refusal))
 
 -- ---- what a field without a fault leaves held
 

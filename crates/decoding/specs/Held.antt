@@ -1,8 +1,10 @@
 -- What the pass carries, said of what the fields decoded to. Not part of what a reader has to believe.
-use Rattle.std.specs.Prelude.{ℕ, zero, suc, ◌+◌, ◌-◌, ◌*◌, ◌≤◌, ◌<◌, ◌≡◌, Bool, true, false, cond, List, [], ◌∷◌, map, eqb, length, get_or, take, set, pos, Result, Ok, Err}
+use Rattle.std.specs.Prelude.{ℕ, zero, suc, ◌+◌, ◌-◌, ◌*◌, ◌≤◌, ◌<◌, ◌≡◌, Bool, true, false, cond, List, [], ◌∷◌, map, eqb, length, get_or, take, set, pos, Result}
 use Rattle.std.proofs.Math.Option.{none}
 use Rattle.refusals.specs.Faults.{Fault, lowest}
-use Rattle.refusals.specs.Stages.{opening, among_rows, ended}
+use Rattle.refusals.specs.Stages.{opening, among_rows, ended, stage_of}
+use Rattle.refusals.specs.Refusals.{number_in}
+use Rattle.refusals.specs.declared.Refusal.{Refusal}
 use Rattle.refusals.specs.declared.Limits.{Limits}
 use Rattle.blockfield.specs.BlockField.{kind_at, shift_register}
 use Rattle.blockfield.specs.Marked.{index_mark, Lies}
@@ -50,7 +52,7 @@ seen_of head offsets sorts used registers = record { head = head; offsets = offs
 
 -- what is known of a circuit
 abbrev pub head_of : Known → Head
-head_of known = record { stage = known.stage; n = known.n; blocks = known.blocks; rows = known.rows; start = known.start }
+head_of known = record { stage = stage_of known.stage; n = known.n; blocks = known.blocks; rows = known.rows; start = known.start }
 
 abbrev pub seen : Known → Seen
 seen known = seen_of (head_of known) known.offsets known.sorts known.used known.registers
@@ -88,11 +90,7 @@ pub record Judged : Type 0 where
   pub next : ℕ
   pub seen : Seen
 
-abbrev pub number_in : Result (Unit {0}) ℕ → ℕ
-number_in (Ok u) = 0
-number_in (Err k) = k
-
-abbrev pub judged : Result (Unit {0}) ℕ → ℕ → Seen → Judged
+abbrev pub judged : Result (Unit {0}) Refusal → ℕ → Seen → Judged
 judged r next seen = record { number = number_in r; next = next; seen = seen }
 
 -- the number of a field, and, where it is 0, what is held and the next place
@@ -107,7 +105,7 @@ abbrev pub Adds : Limits → List ℕ → Seen → (State → List Fault) → �
 Adds limits s seen faults next then r = (st : State) → Holds limits s seen st → Judges limits s (lowest (faults st)) next (then st) r
 
 -- the same, said of a field and of what is known before and after it
-abbrev pub Takes : Limits → Field → Known → (State → List Fault) → (State → State) → Result (Unit {0}) ℕ → Known → Type 0
+abbrev pub Takes : Limits → Field → Known → (State → List Fault) → (State → State) → Result (Unit {0}) Refusal → Known → Type 0
 Takes limits field before faults then r after =
     let next = (field.at + 3) + field.size in
     Adds limits field.bytes.now (seen before) faults next then (judged r next (seen after))

@@ -1,6 +1,7 @@
 ghost use Rattle.std.specs.Prelude.{◌≡◌, false, replicate, ◌+◌, ◌≤◌, length, pos};
 ghost use Rattle.words.specs.Signed.{Between};
 ghost use Rattle.kinds.specs.Table.{kinds_table};
+ghost use Rattle.refusals.specs.Stages.{ended, stage_of};
 ghost use Rattle.refusals.specs.Modest.{Modest};
 ghost use Rattle.refusals.specs.declared.Limits.{Limits};
 ghost use Rattle.blockfield.specs.BlockField.{kind_at, signed_at, index_from, shift_register};
@@ -9,12 +10,12 @@ ghost use Rattle.decoding.specs.Held.{Sound, Takes, head_of, before, registers_a
 
 use crate::field::Field;
 use kinds::KindTable;
-use refusals::{AFTER_BLOCK, AMONG_BLOCKS, AMONG_ROWS, ENDED, Limits, OPENING};
+use refusals::{Limits, Refusal, Stage};
 
 // What is known of a circuit from the fields so far. Who has it judged owns it and lends it.
 #[derive(Drop)]
 pub struct Known {
-    pub stage: u8,
+    pub stage: Stage,
     // n of the header, the blocks and the rows so far, and where the first row stands
     pub n: usize,
     pub blocks: usize,
@@ -32,7 +33,7 @@ impl Known {
     // Room for what is to be known.
     pub fn new() -> Self {
         Known {
-            stage: OPENING,
+            stage: Stage::Opening,
             n: 0,
             blocks: 0,
             rows: 0,
@@ -52,7 +53,7 @@ impl Known {
         ensures used { self.new.used ≡ replicate 156 false }
         ensures registers { self.new.registers ≡ replicate 4 false }
     {
-        self.stage = OPENING;
+        self.stage = Stage::Opening;
         self.n = 0;
         self.blocks = 0;
         self.rows = 0;
@@ -61,25 +62,22 @@ impl Known {
         self.registers = [false; 4];
     }
 
-    pub fn header(&mut self, limits: Limits, field: Field) -> Result<(), u8>
+    pub fn header(&mut self, limits: Limits, field: Field) -> Result<(), Refusal>
         requires { Sound (head_of self.old) field.at × Modest limits }
         ensures { Takes limits field.entry self.old (header_in limits field.entry.bytes.now field.entry.at field.entry.size) (header_taken field.entry.bytes.now field.entry.at) result self.new }
     {
-        let number = fields::header_number(limits, field.bytes, field.at, field.size, self.stage);
-        if number != 0 {
-            return Err(number);
-        }
+        fields::judge_header(limits, field.bytes, field.at, field.size, self.stage)?;
         self.n = words::two_at(field.bytes, field.at + 4);
         self.start = field.end();
-        self.stage = AMONG_BLOCKS;
+        self.stage = Stage::AmongBlocks;
         Ok(())
     }
 
-    pub fn block(&mut self, limits: Limits, kinds: &KindTable, field: Field) -> Result<(), u8>
-        requires { (kinds.now ≡ kinds_table) × Sound (head_of self.old) field.at × (self.old.stage ≡ 4 → ⊥) }
+    pub fn block(&mut self, limits: Limits, kinds: &KindTable, field: Field) -> Result<(), Refusal>
+        requires { (kinds.now ≡ kinds_table) × Sound (head_of self.old) field.at × (stage_of self.old.stage ≡ ended → ⊥) }
         ensures { Takes limits field.entry self.old (block_in limits field.entry.bytes.now field.entry.at field.entry.size) (block_taken field.entry.bytes.now field.entry.at) result self.new }
     {
-        let number = blockfield::block_number(
+        blockfield::judge_block(
             limits,
             kinds,
             field.bytes,
@@ -90,10 +88,7 @@ impl Known {
             self.blocks,
             &self.sorts,
             &self.registers,
-        );
-        if number != 0 {
-            return Err(number);
-        }
+        )?;
         let kind = words::byte_at(field.bytes, field.at + 3);
         mark_register(field.bytes, field.at, kind, &mut self.registers);
         let count = self.blocks;
@@ -102,28 +97,25 @@ impl Known {
         self.offsets[count] = field.at;
         self.blocks = count + 1;
         self.start = field.end();
-        self.stage = AFTER_BLOCK;
+        self.stage = Stage::AfterBlock;
         Ok(())
     }
 
-    pub fn label(&mut self, field: Field) -> Result<(), u8>
+    pub fn label(&mut self, field: Field) -> Result<(), Refusal>
         requires { Sound (head_of self.old) field.at }
         ensures { (limits : Limits) → Takes limits field.entry self.old (label_in field.entry.size) (label_taken field.entry.bytes.now field.entry.at) result self.new }
     {
-        let number = fields::label_number(field.size, self.stage);
-        if number != 0 {
-            return Err(number);
-        }
+        fields::judge_label(field.size, self.stage)?;
         self.start = field.end();
-        self.stage = AMONG_BLOCKS;
+        self.stage = Stage::AmongBlocks;
         Ok(())
     }
 
-    pub fn row(&mut self, limits: Limits, field: Field) -> Result<(), u8>
-        requires { Sound (head_of self.old) field.at × Modest limits × (self.old.stage ≡ 4 → ⊥) }
+    pub fn row(&mut self, limits: Limits, field: Field) -> Result<(), Refusal>
+        requires { Sound (head_of self.old) field.at × Modest limits × (stage_of self.old.stage ≡ ended → ⊥) }
         ensures { Takes limits field.entry self.old (row_in limits field.entry.bytes.now field.entry.at field.entry.size) (row_taken field.entry.bytes.now field.entry.at) result self.new }
     {
-        let number = fields::row_number(
+        fields::judge_row(
             limits,
             field.bytes,
             field.at,
@@ -133,27 +125,21 @@ impl Known {
             self.blocks,
             &self.sorts,
             &self.used,
-        );
-        if number != 0 {
-            return Err(number);
-        }
+        )?;
         let class = words::byte_at(field.bytes, field.at + 3);
         let mark = fields::mark_of(limits, class, words::byte_at(field.bytes, field.at + 4));
         self.used[mark] = true;
         self.rows += 1;
-        self.stage = AMONG_ROWS;
+        self.stage = Stage::AmongRows;
         Ok(())
     }
 
-    pub fn end(&mut self, field: Field) -> Result<(), u8>
-        requires { Sound (head_of self.old) field.at × (self.old.stage ≡ 4 → ⊥) }
+    pub fn end(&mut self, field: Field) -> Result<(), Refusal>
+        requires { Sound (head_of self.old) field.at × (stage_of self.old.stage ≡ ended → ⊥) }
         ensures { (limits : Limits) → Takes limits field.entry self.old (end_in field.entry.size) end_taken result self.new }
     {
-        let number = fields::end_number(field.size, self.stage, self.n, self.blocks);
-        if number != 0 {
-            return Err(number);
-        }
-        self.stage = ENDED;
+        fields::judge_end(field.size, self.stage, self.n, self.blocks)?;
+        self.stage = Stage::Ended;
         Ok(())
     }
 }

@@ -1,13 +1,16 @@
 -- `judge` meets its contract: the loop holds what `Reached` says; a field without a fault brings it nearer to the end of the bytes.
 -- Assumes nothing.
 use Rattle.std.proofs.Common.{◌≡◌, ℕ, List, refl, sym, ap, ◌∙◌, subst, Ok, Err, rules, arith}
-use Rattle.decoding.specs.Held.{Head, Sound, seen, judged, number_in}
+use Rattle.decoding.specs.Held.{Head, Sound, seen, judged}
+use Rattle.refusals.specs.Refusals.{number_of, number_in}
+use Rattle.refusals.specs.Stages.{ended, stage_of}
+use Rattle.refusals.specs.declared.Refused.{Refused}
 use Rattle.circuit.specs.Judged.{Answers}
 use Rattle.circuit.proofs.Walk.{Reached, begins, nothing-sound, nothing-held, falls, goes_on, says-refused, says-surplus, says-ok, accepts-all}
 use Rattle.circuit.proofs.judge.Goals as goal
 
-pub loop-known-init : goal.loop-known-init
-loop-known-init c =
+pub loop-limits-init : goal.loop-limits-init
+loop-limits-init c =
     let e = c.begin.ensures in
     let seen = seen c.begin.new.self in
     record {
@@ -18,19 +21,30 @@ loop-known-init c =
     }
 
 pub returns-in-Err : goal.returns-in-Err
-returns-in-Err c = ?
+returns-in-Err c =
+    let i = c.loop-limits.invariant in
+    let going : stage_of c.loop-limits.known.stage ≡ ended → ⊥ = search rules in
+    let at : c.at.result.place ≡ c.loop-limits.fields.at = ap (λ (x : Refused). x.place) c.at.ensures ∙ c.place-place.ensures in
+    says-refused _ _ _ _ i.reached _ going _ i.same c.take_next.ensures.answers _ _ at (ap number_in c.in-Err.is ∙ ap (λ (x : Refused). number_of x.refusal) (sym c.at.ensures))
 
-pub loop-known-preserved : goal.loop-known-preserved
-loop-known-preserved c =
-    let i = c.loop-known.invariant in
-    let a = subst (λ (s : List ℕ). Answers c.args.limits s c.loop-known.fields.at (seen c.loop-known.known) (judged c.take_next.result c.take_next.new.fields.at (seen c.take_next.new.known))) i.same c.take_next.ensures.answers in
-    record { same = c.take_next.ensures.same ∙ i.same; reached = goes_on _ _ _ _ i.reached (judged c.take_next.result c.take_next.new.fields.at (seen c.take_next.new.known)) c.loop-known-test.true a ? }
+pub loop-limits-preserved : goal.loop-limits-preserved
+loop-limits-preserved c =
+    let i = c.loop-limits.invariant in
+    let going : stage_of c.loop-limits.known.stage ≡ ended → ⊥ = search rules in
+    record { same = c.take_next.ensures.same ∙ i.same; reached = goes_on _ _ _ _ i.reached _ going _ i.same c.take_next.ensures.answers (ap number_in c.in_default.is) }
 
-pub loop-known-smaller : goal.loop-known-smaller
-loop-known-smaller c = ?
+pub loop-limits-smaller : goal.loop-limits-smaller
+loop-limits-smaller c =
+    let i = c.loop-limits.invariant in
+    let going : stage_of c.loop-limits.known.stage ≡ ended → ⊥ = search rules in
+    falls _ _ _ _ i.reached _ going _ i.same c.take_next.ensures.answers (ap number_in c.in_default.is)
 
 pub returns-then-place-circuit : goal.returns-then-place-circuit
-returns-then-place-circuit c = rw c.place-place-2.ensures (says-surplus _ _ _ (seen c.loop-known.known) c.loop-known.invariant.reached c.loop-known-test.false (omega arith) _)
+returns-then-place-circuit c =
+    let there : stage_of c.loop-limits.known.stage ≡ ended = search rules in
+    says-surplus _ _ _ (seen c.loop-limits.known) c.loop-limits.invariant.reached there (omega arith) _ _ (c.at-then-place-circuit.ensures ∙ rw c.place-place-2.ensures)
 
 pub returns : goal.returns
-returns c = says-ok _ _ _ (accepts-all _ _ _ (seen c.loop-known.known) c.loop-known.invariant.reached c.loop-known-test.false (omega arith))
+returns c =
+    let there : stage_of c.loop-limits.known.stage ≡ ended = search rules in
+    says-ok _ _ _ (accepts-all _ _ _ (seen c.loop-limits.known) c.loop-limits.invariant.reached there (omega arith))

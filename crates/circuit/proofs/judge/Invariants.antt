@@ -6,8 +6,8 @@ use Rattle.decoding.specs.Held.{seen}
 use Rattle.circuit.proofs.Walk.{Reached}
 use Rattle.circuit.proofs.judge.Given as goal
 
-abbrev pub invariant-loop-known : goal.invariant-loop-known
-invariant-loop-known l = record { same : l.fields.bytes.now ≡ l.circuit; reached : Reached l.limits l.circuit l.fields.at (seen l.known) }
+abbrev pub invariant-loop-limits : goal.invariant-loop-limits
+invariant-loop-limits l = record { same : l.fields.bytes.now ≡ l.circuit; reached : Reached l.limits l.circuit l.fields.at (seen l.known) }
 
-abbrev pub decreases-loop-known : goal.decreases-loop-known
-decreases-loop-known l = length l.circuit - l.fields.at
+abbrev pub decreases-loop-limits : goal.decreases-loop-limits
+decreases-loop-limits l = length l.circuit - l.fields.at

@@ -2,7 +2,7 @@
 use mathlib.Core.Path.{◌≡◌, sym, ap, ◌∙◌}
 use Rattle.std.proofs.Common.{Err, rules}
 use native.Mathlib.Omega.{arith}
-use Rattle.decoding.specs.Held.{number_in}
+use Rattle.refusals.specs.Refusals.{number_of, number_in}
 use Rattle.decoding.proofs.Steps.{refuses}
 use Rattle.circuit.proofs.Walk.{sized, there, cut-short, field-header, field-block, field-label, field_row, field_end, field-other}
 use Rattle.circuit.proofs.take_next.Goals as goal
@@ -10,7 +10,7 @@ use Rattle.circuit.proofs.take_next.Goals as goal
 pub returns-in_err-field-clause-answers : goal.returns-in_err-field-clause-answers
 returns-in_err-field-clause-answers c =
     let is : c.from_residual.result ≡ Err c.in_err-field.field-0.0 = search rules in
-    let number = ap number_in is ∙ c.in_err-field.ensures.reads.0 in
+    let number = ap number_in is ∙ ap number_of c.in_err-field.ensures.reads.0 in
     λ st h. refuses (number ∙ cut-short _ _ _ st c.in_err-field.ensures.reads.1) (λ z. omega (arith, number))
 
 pub returns-in-1-clause-answers : goal.returns-in-1-clause-answers
