@@ -16,7 +16,7 @@ use Rattle.fields.specs.Marks.{mark}
 use Rattle.fields.proofs.Laws.{mark-below}
 use Rattle.decoding.specs.Decoded.{header_in, block_in, label_in, row_in, end_in, State, index_used, destination_used, size_at, next_at, header_taken, block_taken, label_taken, row_taken, end_taken, nothing, circuit_of, block_at}
 use Rattle.circuit.specs.Circuit.{is_cut, tag_faults, field_faults, field_number, taken, closing, walk, refused, accepted, verdict_at, answer_to, answer_at}
-use Rattle.decoding.specs.Held.{rows_at, Head, Seen, seen_of, seen, head_of, before, Judged, judged, Judges, Sound, Holds}
+use Rattle.decoding.specs.Held.{rows_at, Seen, seen, head_of, Nothing, Judged, judged, Judges, Sound, Holds}
 use Rattle.decoding.specs.declared.field.Field.{Field}
 use Rattle.decoding.specs.declared.known.Known.{Known}
 use Rattle.circuit.specs.Read.{Reads}
@@ -158,10 +158,57 @@ pub record Reached (limits : Limits) (s : List ℕ) (at : ℕ) (seen : Seen) : T
   pub enough : length s - at < fuel
   pub same : verdict_at limits s ≡ walk fuel limits s at st
 
-pub begins : (limits : Limits) (s : List ℕ) (at : ℕ) (seen : Seen) → at ≡ 0 → Sound seen.head 0 → Holds limits s seen nothing → Reached limits s at seen
+-- at the first field nothing is known
+nothing-held : (limits : Limits) (s : List ℕ) (known : Known) → Modest limits → Nothing known → Holds limits s (seen known) nothing
+unfolding destination_used index_used rows_at
+nothing-held limits s known modest none =
+    record {
+      stage = none.stage;
+      n = none.n;
+      blocks = none.blocks;
+      rows = none.rows;
+      rows-there = ap (rows_at s known.start) none.rows;
+      sorts = ap (λ (k : ℕ). take k known.sorts) none.blocks;
+      offsets = ap (λ (k : ℕ). map (block_at s) (take k known.offsets)) none.blocks;
+      registers =
+          λ x l g.
+          let i : x - 1 < 4 = omega arith in
+          ap (λ (q : List Bool). get_or q (x - 1) false) none.registers ∙ get_or-replicate 4 (x - 1) false false i;
+      used =
+          λ class number l g.
+          ap (λ (q : List Bool). get_or q (mark class number) false) none.used
+          ∙ get_or-replicate 156 (mark class number) false false (mark-below limits class number modest (record { low = l; high = g }));
+      lie = λ k l. let x : ⊥ = omega (arith, none.blocks) in absurd x;
+      offsets-long = none.offsets;
+      sorts-long = none.sorts;
+      used-long = ap length none.used ∙ length-replicate {A = Bool} 156 false;
+      registers-long = ap length none.registers ∙ length-replicate {A = Bool} 4 false;
+    }
+
+nothing-sound : (known : Known) → Nothing known → Sound (head_of known) 0
+nothing-sound known none =
+    record {
+      fresh = λ z. none.blocks;
+      few = omega (arith, none.n);
+      some_left = omega (arith, none.blocks);
+      complete = λ z. omega (arith, none.n);
+      no_rows = λ y z. none.rows;
+      along = λ z. omega (arith, none.start, none.rows);
+      closed = λ z. let x : ⊥ = omega (arith, none.stage) in absurd x;
+    }
+
+pub begins : (limits : Limits) (s : List ℕ) (at : ℕ) (known : Known) → Modest limits → at ≡ 0 → Nothing known → Reached limits s at (seen known)
 unfolding verdict_at
-begins limits s at seen z sound h =
-    rw z record { within = omega arith; sound = sound; st = nothing; fuel = suc (length s); holds = h; enough = omega arith; same = refl }
+begins limits s at known modest z none =
+    rw z record {
+      within = omega arith;
+      sound = nothing-sound known none;
+      st = nothing;
+      fuel = suc (length s);
+      holds = nothing-held limits s known modest none;
+      enough = omega arith;
+      same = refl;
+    }
 
 module _ (limits : Limits) (s : List ℕ) (at : ℕ) (seen : Seen) (w : Reached limits s at seen) where
   going : (seen.head.stage ≡ ended → ⊥) → w.st.stage ≡ ended → ⊥
@@ -238,43 +285,3 @@ module _ (limits : Limits) (s : List ℕ) (at : ℕ) (seen : Seen) (w : Reached 
         rows-there = w.holds.rows-there;
         rows_end = omega (arith, w.sound.closed four, w.within);
       }
-
--- ---- the beginning
-
-pub nothing-held : (limits : Limits) (s : List ℕ) (seen : Seen) → Modest limits → seen.head ≡ before → length seen.offsets ≡ 400 → length seen.sorts ≡ 400 → seen.used ≡ replicate 156 false → seen.registers ≡ replicate 4 false → Holds limits s seen nothing
-unfolding destination_used index_used rows_at
-nothing-held limits s seen modest h o so u r =
-    record {
-      stage = ap (λ (x : Head). x.stage) h;
-      n = ap (λ (x : Head). x.n) h;
-      blocks = ap (λ (x : Head). x.blocks) h;
-      rows = ap (λ (x : Head). x.rows) h;
-      rows-there = ap (λ (x : Head). rows_at s x.start x.rows) h;
-      sorts = ap (λ (x : Head). take x.blocks seen.sorts) h;
-      offsets = ap (λ (x : Head). map (block_at s) (take x.blocks seen.offsets)) h;
-      registers =
-          λ x l g.
-          let i : x - 1 < 4 = omega arith in
-          ap (λ (q : List Bool). get_or q (x - 1) false) r ∙ get_or-replicate 4 (x - 1) false false i;
-      used =
-          λ class number l g.
-          ap (λ (q : List Bool). get_or q (mark class number) false) u
-          ∙ get_or-replicate 156 (mark class number) false false (mark-below limits class number modest (record { low = l; high = g }));
-      lie = λ k l. let x : ⊥ = omega (arith, ap (λ (x : Head). x.blocks) h) in absurd x;
-      offsets-long = o;
-      sorts-long = so;
-      used-long = ap length u ∙ length-replicate {A = Bool} 156 false;
-      registers-long = ap length r ∙ length-replicate {A = Bool} 4 false;
-    }
-
-pub nothing-sound : Sound before 0
-nothing-sound =
-    record {
-      fresh = λ z. refl;
-      few = omega arith;
-      some_left = omega arith;
-      complete = λ z. omega arith;
-      no_rows = λ y z. refl;
-      along = λ z. omega arith;
-      closed = λ z. let x : ⊥ = omega arith in absurd x;
-    }

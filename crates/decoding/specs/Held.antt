@@ -1,5 +1,5 @@
 -- What the pass carries, said of what the fields decoded to. Not part of what a reader has to believe.
-use Rattle.std.specs.Prelude.{ℕ, zero, suc, ◌+◌, ◌-◌, ◌*◌, ◌≤◌, ◌<◌, ◌≡◌, Bool, true, false, cond, List, [], ◌∷◌, map, eqb, length, get_or, take, set, pos, Result}
+use Rattle.std.specs.Prelude.{ℕ, zero, suc, ◌+◌, ◌-◌, ◌*◌, ◌≤◌, ◌<◌, ◌≡◌, Bool, true, false, cond, replicate, List, [], ◌∷◌, map, eqb, length, get_or, take, set, pos, Result}
 use Rattle.std.proofs.Math.Option.{none}
 use Rattle.refusals.specs.Faults.{Fault, lowest}
 use Rattle.refusals.specs.Stages.{opening, among_rows, ended, stage_of}
@@ -35,10 +35,6 @@ pub record Head : Type 0 where
   pub rows : ℕ
   pub start : ℕ
 
--- before the first field
-abbrev pub before : Head
-before = record { stage = opening; n = 0; blocks = 0; rows = 0; start = 0 }
-
 -- these, and what the arrays hold
 pub record Seen : Type 0 where
   pub head : Head
@@ -56,6 +52,18 @@ head_of known = record { stage = stage_of known.stage; n = known.n; blocks = kno
 
 abbrev pub seen : Known → Seen
 seen known = seen_of (head_of known) known.offsets known.sorts known.used known.registers
+
+-- nothing is known, before the first field
+pub record Nothing (known : Known) : Type 0 where
+  pub stage : stage_of known.stage ≡ opening
+  pub n : known.n ≡ 0
+  pub blocks : known.blocks ≡ 0
+  pub rows : known.rows ≡ 0
+  pub start : known.start ≡ 0
+  pub offsets : length known.offsets ≡ 400
+  pub sorts : length known.sorts ≡ 400
+  pub used : known.used ≡ replicate 156 false
+  pub registers : known.registers ≡ replicate 4 false
 
 -- what the head says by itself, before the field at a place
 pub record Sound (head : Head) (at : ℕ) : Type 0 where

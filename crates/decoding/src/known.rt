@@ -1,4 +1,4 @@
-ghost use Rattle.std.specs.Prelude.{◌≡◌, false, replicate, ◌+◌, ◌≤◌, length, pos};
+ghost use Rattle.std.specs.Prelude.{◌≡◌, ◌+◌, ◌≤◌, length, pos};
 ghost use Rattle.words.specs.Signed.{Between};
 ghost use Rattle.kinds.specs.Table.{kinds_table};
 ghost use Rattle.refusals.specs.Stages.{ended, stage_of};
@@ -6,7 +6,7 @@ ghost use Rattle.refusals.specs.Modest.{Modest};
 ghost use Rattle.refusals.specs.declared.Limits.{Limits};
 ghost use Rattle.blockfield.specs.BlockField.{kind_at, signed_at, index_from, shift_register};
 ghost use Rattle.decoding.specs.Decoded.{header_in, block_in, label_in, row_in, end_in, header_taken, block_taken, label_taken, row_taken, end_taken};
-ghost use Rattle.decoding.specs.Held.{Sound, Takes, head_of, before, registers_after};
+ghost use Rattle.decoding.specs.Held.{Nothing, Sound, Takes, head_of, registers_after};
 
 use crate::field::Field;
 use kinds::KindTable;
@@ -30,8 +30,10 @@ pub struct Known {
 }
 
 impl Known {
-    // Room for what is to be known.
-    pub fn new() -> Self {
+    // Nothing, before the first field.
+    pub fn new() -> Self
+        ensures { Nothing result }
+    {
         Known {
             stage: Stage::Opening,
             n: 0,
@@ -45,13 +47,9 @@ impl Known {
         }
     }
 
-    // Before the first field: nothing is known.
+    // Forgets all of it. What the first two arrays hold may stay: no more of it counts than there are blocks.
     pub fn begin(&mut self)
-        ensures head { head_of self.new ≡ before }
-        ensures offsets { length self.new.offsets ≡ 400 }
-        ensures sorts { length self.new.sorts ≡ 400 }
-        ensures used { self.new.used ≡ replicate 156 false }
-        ensures registers { self.new.registers ≡ replicate 4 false }
+        ensures { Nothing self.new }
     {
         self.stage = Stage::Opening;
         self.n = 0;

@@ -1,24 +1,15 @@
 -- `judge` meets its contract: the loop holds what `Reached` says; a field without a fault brings it nearer to the end of the bytes.
 -- Assumes nothing.
-use Rattle.std.proofs.Common.{◌≡◌, ℕ, List, refl, sym, ap, ◌∙◌, subst, Ok, Err, rules, arith}
-use Rattle.decoding.specs.Held.{Head, Sound, seen, judged}
+use Rattle.std.proofs.Common.{◌≡◌, sym, ap, ◌∙◌, rules, arith}
+use Rattle.decoding.specs.Held.{seen}
 use Rattle.refusals.specs.Refusals.{number_of, number_in}
 use Rattle.refusals.specs.Stages.{ended, stage_of}
 use Rattle.refusals.specs.declared.Refused.{Refused}
-use Rattle.circuit.specs.Judged.{Answers}
-use Rattle.circuit.proofs.Walk.{Reached, begins, nothing-sound, nothing-held, falls, goes_on, says-refused, says-surplus, says-ok, accepts-all}
+use Rattle.circuit.proofs.Walk.{begins, falls, goes_on, says-refused, says-surplus, says-ok, accepts-all}
 use Rattle.circuit.proofs.judge.Goals as goal
 
 pub loop-limits-init : goal.loop-limits-init
-loop-limits-init c =
-    let e = c.begin.ensures in
-    let seen = seen c.begin.new.self in
-    record {
-      same = c.new-fields.ensures.0;
-      reached =
-          begins _ _ _ seen c.new-fields.ensures.1 (subst (λ (h : Head). Sound h 0) (sym e.head) nothing-sound)
-          (nothing-held _ _ seen c.requires e.head e.offsets e.sorts e.used e.registers);
-    }
+loop-limits-init c = record { same = c.new-fields.ensures.0; reached = begins _ _ _ c.begin.new.self c.requires c.new-fields.ensures.1 c.begin.ensures }
 
 pub returns-in-Err : goal.returns-in-Err
 returns-in-Err c =
