@@ -1,7 +1,7 @@
 // What every judging has in common: refusals, limits, stages, and the answer of four numbers.
 #![tactic(auto)]
 
-ghost use Rattle.std.specs.Prelude.{◌≡◌};
+ghost use Rattle.std.specs.Prelude.{◌≡◌, ◌+◌, ◌≤◌, length};
 ghost use Rattle.refusals.specs.Limited.{ours as ours_of, older as older_of};
 ghost use Rattle.refusals.specs.Answers.{refused_at, accepted_with, answer_of};
 ghost use Rattle.refusals.specs.Refusals.{number_of};
@@ -119,6 +119,24 @@ impl From<Result<(usize, usize), Refused>> for Answer {
                 second: 0,
             },
         }
+    }
+}
+
+// A field that lies within the bytes: its first byte, and the length of its content.
+#[derive(Clone, Copy)]
+pub struct Field<'a> {
+    pub bytes: &'a [u8],
+    pub at: usize,
+    pub size: usize,
+    ghost inside: { (at + 3) + size ≤ length bytes.now },
+}
+
+impl Field<'_> {
+    // Where the next one begins.
+    pub fn next(&self) -> usize
+        ensures { result ≡ (self.now.at + 3) + self.now.size }
+    {
+        self.at + 3 + self.size
     }
 }
 
