@@ -1,8 +1,7 @@
 ghost use Rattle.std.specs.Prelude.{◌≡◌, ◌≤◌, length};
 ghost use Rattle.circuit.specs.Read.{Reads};
 
-use decoding::Field;
-use refusals::Refusal;
+use refusals::{Field, Refusal};
 
 // The fields of a circuit from a place on.
 #[derive(Clone, Copy)]
@@ -45,7 +44,7 @@ impl<'a> Fields<'a> {
             at: self.at,
             size,
         };
-        self.at = field.end();
+        self.at = field.next();
         Ok(field)
     }
 }
