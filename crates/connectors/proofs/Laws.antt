@@ -108,25 +108,24 @@ module _ (limits : Limits) (spot own n : ℕ) (sorts : List Bool) (byte number c
 
 -- ---- several connectors
 
--- one of them, and what is left; `before`: one before them is later
-pub with-later : (w l w' l' before : Bool) → 7 ≡ six_or_seven w l → six_or_seven w' (true || l') ≡ six_or_seven (w || w') (before || (l || l'))
+-- what is told of one
+pub seven-told : (w l : Bool) → 7 ≡ six_or_seven w l → (w ≡ false) × (l ≡ true)
 unfolding six_or_seven
-with-later true l w' l' before e = let z : ⊥ = omega (arith, e) in absurd z
-with-later false true w' l' true e = refl
-with-later false true w' l' false e = refl
-with-later false false w' l' before e = let z : ⊥ = omega (arith, e) in absurd z
+seven-told true l e = let z : ⊥ = omega (arith, e) in absurd z
+seven-told false true e = (refl, refl)
+seven-told false false e = let z : ⊥ = omega (arith, e) in absurd z
 
-pub with-none : (w l w' l' before : Bool) → 0 ≡ six_or_seven w l → six_or_seven w' (before || l') ≡ six_or_seven (w || w') (before || (l || l'))
+pub none-told : (w l : Bool) → 0 ≡ six_or_seven w l → (w ≡ false) × (l ≡ false)
 unfolding six_or_seven
-with-none true l w' l' before e = let z : ⊥ = omega (arith, e) in absurd z
-with-none false true w' l' before e = let z : ⊥ = omega (arith, e) in absurd z
-with-none false false w' l' before e = refl
+none-told true l e = let z : ⊥ = omega (arith, e) in absurd z
+none-told false true e = let z : ⊥ = omega (arith, e) in absurd z
+none-told false false e = (refl, refl)
 
-pub with-wrong : (w l w' l' before : Bool) (refusal : Refusal) → number_of refusal ≡ six_or_seven w l → (refusal ≡ OwnOrLaterBlock → ⊥) → number_of refusal ≡ six_or_seven (w || w') (before || (l || l'))
+pub six-told : (w l : Bool) (refusal : Refusal) → number_of refusal ≡ six_or_seven w l → (refusal ≡ OwnOrLaterBlock → ⊥) → (w ≡ true) × (number_of refusal ≡ 6)
 unfolding six_or_seven
-with-wrong true l w' l' before refusal e ne = e
-with-wrong false true w' l' before refusal e ne = absurd (ne (numbers-differ refusal OwnOrLaterBlock e))
-with-wrong false false w' l' before refusal e ne = let z : ⊥ = omega (arith, number-above refusal, e) in absurd z
+six-told true l refusal e ne = (refl, e)
+six-told false true refusal e ne = absurd (ne (numbers-differ refusal OwnOrLaterBlock e))
+six-told false false refusal e ne = let z : ⊥ = omega (arith, number-above refusal, e) in absurd z
 
 pub none-wrong : (w l : Bool) → six_or_seven w l ≡ 0 → w ≡ false
 unfolding six_or_seven
@@ -145,29 +144,48 @@ is-wrong true l h nz = refl
 is-wrong false true h nz = sym (h refl)
 is-wrong false false h nz = absurd (nz refl)
 
--- a block's inputs from number j on, from 0; `before`: one before them is later
-module _ (limits : Limits) (spot own n : ℕ) (sorts : List Bool) (s : List ℕ) (at count : ℕ) where
-  abbrev pub number_from : Bool → ℕ → ℕ
-  number_from before j =
-      six_or_seven
-      (any_of (wrong limits spot own n sorts) (connectors_at s (at + 3 * j) (count - j)))
-      (before || any_of (later own) (connectors_at s (at + 3 * j) (count - j)))
+or-more : (before l rest : Bool) → ((before || l) || rest) ≡ (before || (l || rest))
+or-more true l rest = refl
+or-more false l rest = refl
+
+or_true : (b : Bool) → (b || true) ≡ true
+or_true true = refl
+or_true false = refl
+
+pub or_false : (b : Bool) → (b || false) ≡ b
+or_false true = refl
+or_false false = refl
+
+-- what is carried on: whether it holds for one before, and what is left
+module _ (before after l rest left all : Bool) (is-left : left ≡ (l || rest)) (is-all : (before || left) ≡ all) where
+  pub carried : after ≡ (before || l) → (after || rest) ≡ all
+  carried e = ap (λ (x : Bool). x || rest) e ∙ or-more before l rest ∙ ap (λ (x : Bool). before || x) (sym is-left) ∙ is-all
+
+  pub carried-true : l ≡ true → after ≡ true → (after || rest) ≡ all
+  carried-true t e = carried (e ∙ sym (ap (λ (x : Bool). before || x) t ∙ or_true before))
+
+  pub carried-false : l ≡ false → after ≡ before → (after || rest) ≡ all
+  carried-false f e = carried (e ∙ sym (ap (λ (x : Bool). before || x) f ∙ or_false before))
+
+-- of a block's inputs those from number j on, from 0
+module _ (f : Connector → Bool) (s : List ℕ) (at count : ℕ) where
+  abbrev pub any_from : ℕ → Bool
+  any_from j = any_of f (connectors_at s (at + 3 * j) (count - j))
 
   -- they are one and those behind it
-  pub one-more : (before : Bool) (j : ℕ) → j < count → number_from before j ≡ six_or_seven (wrong limits spot own n sorts (connector_at s (at + 3 * j)) || any_of (wrong limits spot own n sorts) (connectors_at s (at + 3 * (j + 1)) (count - (j + 1)))) (before || (later own (connector_at s (at + 3 * j)) || any_of (later own) (connectors_at s (at + 3 * (j + 1)) (count - (j + 1)))))
+  pub one-more : (j : ℕ) → j < count → any_from j ≡ (f (connector_at s (at + 3 * j)) || any_from (j + 1))
   unfolding any_of connectors_at
-  one-more before j h =
+  one-more j h =
       let p : at + 3 * j + 3 ≡ at + 3 * (j + 1) = omega arith in
       let q : count - j ≡ suc (count - (j + 1)) = omega arith in
       rw q (rw p refl)
 
-  pub from-all : number_from false 0 ≡ six_or_seven (any_of (wrong limits spot own n sorts) (connectors_at s at count)) (any_of (later own) (connectors_at s at count))
+  pub from-all : any_from 0 ≡ any_of f (connectors_at s at count)
   from-all =
       let p : at + 3 * 0 ≡ at = omega arith in
       let q : count - 0 ≡ count = omega arith in
       rw q (rw p refl)
 
-  pub from-none : (before : Bool) (j : ℕ) → j ≡ count → number_from before j ≡ six_or_seven false before
-  unfolding any_of connectors_at six_or_seven
-  from-none true j e = let q : count - j ≡ 0 = omega arith in rw q refl
-  from-none false j e = let q : count - j ≡ 0 = omega arith in rw q refl
+  pub from-none : (j : ℕ) → j ≡ count → any_from j ≡ false
+  unfolding any_of connectors_at
+  from-none j e = let q : count - j ≡ 0 = omega arith in rw q refl

@@ -1,4 +1,5 @@
-ghost use Rattle.std.specs.Prelude.{◌≡◌, not, ◌+◌, ◌*◌, ◌%◌, ◌≤◌, length};
+ghost use Rattle.std.specs.Prelude.{◌≡◌, not, cond, ◌+◌, ◌*◌, ◌%◌, ◌≤◌, length};
+ghost use Rattle.std.specs.Result.{IfOk};
 ghost use Rattle.refusals.specs.Refusals.{number_in};
 ghost use Rattle.connectors.specs.Codes.{class_code, spot_code};
 ghost use Rattle.connectors.specs.Connectors.{connector_at, connectors_at, misfits, wrong, later, any_of};
@@ -63,16 +64,17 @@ impl Reach<'_> {
         self.judge_parts(spot, bytes[at], words::two_at(bytes, at + 1))
     }
 
-    // A block's inputs of one sort: `count` connectors from a place on. What any of them is refused for, as 6 before 7.
+    // Of a block's inputs of one sort, `count` connectors from a place on: whether one names the own or a later block.
     pub fn judge_inputs(
         &self,
         bytes: &[u8],
         at: usize,
         count: usize,
         spot: Spot,
-    ) -> Result<(), Refusal>
+    ) -> Result<bool, Refusal>
         requires { at + 3 * count ≤ length bytes.now }
-        ensures { number_in result ≡ six_or_seven (any_of (wrong self.now.limits (spot_code spot) (self.now.blocks + 1) self.now.n self.now.sorts.now) (connectors_at bytes.now at count)) (any_of (later (self.now.blocks + 1)) (connectors_at bytes.now at count)) }
+        ensures number { number_in result ≡ cond (any_of (wrong self.now.limits (spot_code spot) (self.now.blocks + 1) self.now.n self.now.sorts.now) (connectors_at bytes.now at count)) 6 0 }
+        ensures later { IfOk result (λ is_later. is_later ≡ any_of (later (self.now.blocks + 1)) (connectors_at bytes.now at count)) }
     {
         let mut is_later = false;
         for j in 0..count {
@@ -83,9 +85,6 @@ impl Reach<'_> {
                 }
             }
         }
-        if is_later {
-            return Err(Refusal::OwnOrLaterBlock);
-        }
-        Ok(())
+        Ok(is_later)
     }
 }

@@ -133,8 +133,8 @@ pub struct Field<'a> {
 
 impl Field<'_> {
     // Where the next one begins.
-    pub fn next(&self) -> usize
-        ensures { result ≡ (self.now.at + 3) + self.now.size }
+    pub fn end(self) -> usize
+        ensures { result ≡ (self.entry.at + 3) + self.entry.size }
     {
         self.at + 3 + self.size
     }
