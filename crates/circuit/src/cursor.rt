@@ -44,7 +44,7 @@ impl<'a> Fields<'a> {
             at: self.at,
             size,
         };
-        self.at = field.next();
+        self.at = field.end();
         Ok(field)
     }
 }

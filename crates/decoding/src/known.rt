@@ -65,7 +65,7 @@ impl Known {
         ensures { Takes limits.now field.now self.old (header_in limits.now field.now.bytes.now field.now.at field.now.size) (header_taken field.now.bytes.now field.now.at) result self.new }
     {
         self.n = fields::judge_header(limits, field, self.stage)?;
-        self.start = field.next();
+        self.start = field.end();
         self.stage = Stage::AmongBlocks;
         Ok(())
     }
@@ -86,7 +86,7 @@ impl Known {
         self.sorts[count] = kind.is_analog();
         self.offsets[count] = field.at;
         self.blocks = count + 1;
-        self.start = field.next();
+        self.start = field.end();
         self.stage = Stage::AfterBlock;
         Ok(())
     }
@@ -96,7 +96,7 @@ impl Known {
         ensures { (limits : Limits) → Takes limits field.now self.old (label_in field.now.size) (label_taken field.now.bytes.now field.now.at) result self.new }
     {
         fields::judge_label(field.size, self.stage)?;
-        self.start = field.next();
+        self.start = field.end();
         self.stage = Stage::AmongBlocks;
         Ok(())
     }

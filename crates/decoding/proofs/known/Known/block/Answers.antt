@@ -40,6 +40,6 @@ pub returns : goal.returns
 returns c =
     let f = c.args.field.now in
     λ st h.
-    block-taken c.args.limits.now f.bytes.now f.at f.size f.inside (seen c.args.self.now) c.requires.0 st h c.requires.1 _ c.next-self.ensures _ c.mark_register.ensures _
+    block-taken c.args.limits.now f.bytes.now f.at f.size f.inside (seen c.args.self.now) c.requires.0 st h c.requires.1 _ c.end-self.ensures _ c.mark_register.ensures _
     (c.is_analog.ensures ∙ ap (λ (k : ℕ). is_analog (kind_of k).output) c.in_ok-kind.ensures.kind)
     (sym (ap number_in c.in_ok-kind.was) ∙ c.judge_block.ensures.number)

@@ -9,5 +9,5 @@ pub returns : goal.returns
 returns c =
     let f = c.args.field.now in
     λ st h.
-    header-taken c.args.limits.now f.bytes.now f.at f.size f.inside (seen c.args.self.now) c.requires.0 st h c.requires.1 _ _ c.in_ok-self.ensures.n c.next-self.ensures
+    header-taken c.args.limits.now f.bytes.now f.at f.size f.inside (seen c.args.self.now) c.requires.0 st h c.requires.1 _ _ c.in_ok-self.ensures.n c.end-self.ensures
     (sym (ap number_in c.in_ok-self.was) ∙ c.judge_header.ensures.number)

@@ -9,5 +9,5 @@ pub returns : goal.returns
 returns c =
     let f = c.args.field.now in
     λ limits st h.
-    label-taken limits f.bytes.now f.at f.size (seen c.args.self.now) c.requires st h _ c.next-self.ensures
+    label-taken limits f.bytes.now f.at f.size (seen c.args.self.now) c.requires st h _ c.end-self.ensures
     (sym (ap number_in c.in_ok-judge_label.was) ∙ c.judge_label.ensures)
