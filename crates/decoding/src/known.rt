@@ -60,6 +60,22 @@ impl Known {
         self.registers = [false; 4];
     }
 
+    // What the connectors of the next block or row are judged by.
+    fn reach(&self, limits: &Limits) -> Reach<'_>
+        requires { self.now.blocks ≤ 400 }
+        ensures limits { result.limits ≡ limits.now }
+        ensures n { result.n ≡ self.now.n }
+        ensures blocks { result.blocks ≡ self.now.blocks }
+        ensures sorts { result.sorts.now ≡ self.now.sorts }
+    {
+        Reach {
+            limits: *limits,
+            n: self.n,
+            blocks: self.blocks,
+            sorts: &self.sorts,
+        }
+    }
+
     pub fn header(&mut self, limits: &Limits, field: &Field) -> Result<(), Refusal>
         requires { Sound (head_of self.old) field.now.at × Modest limits.now }
         ensures { Takes limits.now field.now self.old (header_in limits.now field.now.bytes.now field.now.at field.now.size) (header_taken field.now.bytes.now field.now.at) result self.new }
@@ -74,12 +90,7 @@ impl Known {
         requires { Sound (head_of self.old) field.now.at × (stage_of self.old.stage ≡ ended → ⊥) }
         ensures { Takes limits.now field.now self.old (block_in limits.now field.now.bytes.now field.now.at field.now.size) (block_taken field.now.bytes.now field.now.at) result self.new }
     {
-        let reach = Reach {
-            limits: *limits,
-            n: self.n,
-            blocks: self.blocks,
-            sorts: &self.sorts,
-        };
+        let reach = self.reach(limits);
         let kind = blockfield::judge_block(&reach, field, self.stage, &self.registers)?;
         mark_register(kind, field, &mut self.registers);
         let count = self.blocks;
@@ -105,12 +116,7 @@ impl Known {
         requires { Sound (head_of self.old) field.now.at × Modest limits.now × (stage_of self.old.stage ≡ ended → ⊥) }
         ensures { Takes limits.now field.now self.old (row_in limits.now field.now.bytes.now field.now.at field.now.size) (row_taken field.now.bytes.now field.now.at) result self.new }
     {
-        let reach = Reach {
-            limits: *limits,
-            n: self.n,
-            blocks: self.blocks,
-            sorts: &self.sorts,
-        };
+        let reach = self.reach(limits);
         let mark = fields::judge_row(&reach, field, self.stage, &self.used)?;
         self.used[mark] = true;
         self.rows += 1;
