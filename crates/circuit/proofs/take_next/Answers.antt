@@ -18,35 +18,35 @@ returns-in-1-clause-answers c =
     let f = c.in_ok-field.field in
     let reads = c.in_ok-field.ensures.reads in
     there _ _ _ _ f reads _ _ _
-    (λ st k. field-header c.args.limits.now f.bytes.now f.at f.size (sized _ _ _ f reads) f.inside st _ (c.in-1.is) (c.header.ensures st k))
+    (λ st k. field-header c.args.limits.now f.bytes.now f.at f.size (sized _ _ _ f reads) f.inside st _ c.in-1.is (c.header.ensures.takes st k))
 
 pub returns-in-16-clause-answers : goal.returns-in-16-clause-answers
 returns-in-16-clause-answers c =
     let f = c.in_ok-field.field in
     let reads = c.in_ok-field.ensures.reads in
     there _ _ _ _ f reads _ _ _
-    (λ st k. field-block c.args.limits.now f.bytes.now f.at f.size (sized _ _ _ f reads) f.inside st _ (c.in-16.is) (c.block.ensures st k))
+    (λ st k. field-block c.args.limits.now f.bytes.now f.at f.size (sized _ _ _ f reads) f.inside st _ c.in-16.is (c.block.ensures.takes st k))
 
 pub returns-in-32-clause-answers : goal.returns-in-32-clause-answers
 returns-in-32-clause-answers c =
     let f = c.in_ok-field.field in
     let reads = c.in_ok-field.ensures.reads in
     there _ _ _ _ f reads _ _ _
-    (λ st k. field-label c.args.limits.now f.bytes.now f.at f.size (sized _ _ _ f reads) f.inside st _ (c.in-32.is) (c.label.ensures c.args.limits.now st k))
+    (λ st k. field-label c.args.limits.now f.bytes.now f.at f.size (sized _ _ _ f reads) f.inside st _ c.in-32.is (c.label.ensures.takes c.args.limits.now f.bytes.now st k))
 
 pub returns-in-48-clause-answers : goal.returns-in-48-clause-answers
 returns-in-48-clause-answers c =
     let f = c.in_ok-field.field in
     let reads = c.in_ok-field.ensures.reads in
     there _ _ _ _ f reads _ _ _
-    (λ st k. field_row c.args.limits.now f.bytes.now f.at f.size (sized _ _ _ f reads) f.inside st _ (c.in-48.is) (c.row.ensures st k))
+    (λ st k. field_row c.args.limits.now f.bytes.now f.at f.size (sized _ _ _ f reads) f.inside st _ c.in-48.is (c.row.ensures.takes st k))
 
 pub returns-in-127-clause-answers : goal.returns-in-127-clause-answers
 returns-in-127-clause-answers c =
     let f = c.in_ok-field.field in
     let reads = c.in_ok-field.ensures.reads in
     there _ _ _ _ f reads _ _ _
-    (λ st k. field_end c.args.limits.now f.bytes.now f.at f.size (sized _ _ _ f reads) f.inside st _ (c.in-127.is) (c.end.ensures c.args.limits.now st k))
+    (λ st k. field_end c.args.limits.now f.bytes.now f.at f.size (sized _ _ _ f reads) f.inside st _ c.in-127.is (c.end.ensures.takes c.args.limits.now f.bytes.now st k))
 
 pub returns-in_default-clause-answers : goal.returns-in_default-clause-answers
 returns-in_default-clause-answers c =

@@ -14,8 +14,8 @@ use Rattle.decoding.proofs.Right.{block-right}
 use Rattle.decoding.proofs.Steps.{block_same, block-taken, passes-on}
 use Rattle.decoding.proofs.known.Known.block.Goals as goal
 
-pub returns-in_err-kind : goal.returns-in_err-kind
-returns-in_err-kind c =
+pub returns-in_err-kind-clause-takes : goal.returns-in_err-kind-clause-takes
+returns-in_err-kind-clause-takes c =
     let f = c.args.field.now in
     let r = c.reach-reach.ensures in
     let number = rw (r.limits, r.n, r.blocks, r.sorts) at c.judge_block.ensures.number in
@@ -44,8 +44,8 @@ bounds-self-count-2 c =
     let right = block-right _ _ _ number (ap number_in c.in_ok-kind.was) in
     omega (arith, right.room, c.requires.0.few)
 
-pub returns : goal.returns
-returns c =
+pub returns-clause-takes : goal.returns-clause-takes
+returns-clause-takes c =
     let f = c.args.field.now in
     let r = c.reach-reach.ensures in
     let number = rw (r.limits, r.n, r.blocks, r.sorts) at c.judge_block.ensures.number in
