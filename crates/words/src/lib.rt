@@ -128,7 +128,7 @@ pub fn bits_of(x: i32) -> u32
 pub fn within(x: i32, least: i32, greatest: i32) -> bool
     ensures { result ≡ is_within x least greatest }
 {
-    least <= x && x <= greatest
+    (least..=greatest).contains(&x)
 }
 
 // Both bits, with no branch.
