@@ -1,5 +1,6 @@
 -- What a step counts on, of its line and of the record. Not part of what a reader has to believe.
-use Rattle.std.specs.Prelude.{ℕ, ◌≤◌, ◌<◌, ◌≡◌, true, List, length, get_or, ℤ}
+use Rattle.std.specs.Prelude.{ℕ, ◌≤◌, ◌<◌, ◌≡◌, true, List, length, get_or, ℤ, Option, None, Some}
+use Rattle.std.proofs.Math.Option.{Option as Maybe, none, some}
 use Rattle.kinds.specs.Kinds.{known}
 use Rattle.blocks.specs.Fit.{Fit, Sixteen}
 use Rattle.connectors.specs.Connectors.{Connector, class_of}
@@ -7,7 +8,9 @@ use Rattle.blockfield.specs.Marked.{Lies}
 use Rattle.decoding.specs.Decoded.{block_at}
 use Rattle.lines.specs.Lines.{line_of, line_at}
 use Rattle.lines.specs.declared.Line.{Line}
-use Rattle.record.specs.Places.{size_of}
+use Rattle.record.specs.Places.{Place, size_of}
+use Rattle.record.specs.Said.{said}
+use Rattle.record.specs.declared.place.Place.{Place as Named}
 use Rattle.record.specs.Sound.{sound}
 use Rattle.record.specs.Written.{lines_at, Stand}
 use Rattle.steps.specs.Steps.{input_of, values_of}
@@ -15,6 +18,11 @@ use Rattle.steps.specs.Steps.{input_of, values_of}
 -- a class byte and a number as a connector
 abbrev pub connector : ℕ → ℕ → Connector
 connector class number = record { class = class; number = number }
+
+-- what the code gives for the place that a connector reads
+abbrev pub source_said : Option Named → Maybe Place
+source_said None = none
+source_said (Some p) = some (said p)
 
 -- the place that a connector reads is one that there is
 pub record Wired (c : Connector) : Type 0 where
