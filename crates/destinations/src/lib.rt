@@ -9,6 +9,8 @@ ghost use Rattle.record.specs.Places.{flag, put, change};
 ghost use Rattle.destinations.specs.Destinations.{carried, outputs_of, publish_word};
 ghost use Rattle.destinations.specs.Slots.{slot, filled, Aimed, Rows};
 
+use record::Place;
+
 // M, the greatest class of a digital destination.
 const GREATEST_DIGITAL: usize = 2;
 
@@ -18,15 +20,15 @@ const SLOTS: usize = 156;
 // Those of the outputs, Q and AQ.
 pub const OUTPUTS: usize = 28;
 
-// Seven bits for each destination class, 4 to 0: the slots before its own, 92, 20, 28, 0, 0.
-const BASES: usize = 0b1011100_0010100_0011100_0000000_0000000;
+// The slots before those of each destination class: none is 0, Q, M, AQ, AM.
+static BEFORE: [usize; 5] = [0, 0, 28, 20, 92];
 
 // The slot of a destination.
 fn slot_of(class: usize, number: usize) -> usize
     requires { Aimed class number }
     ensures { (result ≡ slot class number) × (result < 156) }
 {
-    ((BASES >> (class * 7)) & 127) + (number - 1)
+    BEFORE[class] + (number - 1)
 }
 
 // What the row at a place carries.
@@ -34,35 +36,33 @@ fn carried_by(bytes: &[u8], at: usize, rec: &[i32]) -> i32
     requires { at + 8 ≤ length bytes.now }
     ensures { result ≡ carried rec.now (row_at bytes.now at) }
 {
-    let from = words::byte_at(bytes, at + 5);
+    let class = words::byte_at(bytes, at + 5);
     let number = words::two_at(bytes, at + 6);
     if words::byte_at(bytes, at + 3) <= GREATEST_DIGITAL {
-        return words::word_of(steps::bit_from(rec, false, from, number));
+        steps::bit_from(rec, false, class, number) as i32
+    } else {
+        steps::value_from(rec, class, number)
     }
-    steps::value_from(rec, from, number)
 }
 
 // The slot of the row at a place becomes what the row carries.
-fn fill_row(bytes: &[u8], at: usize, rec: &[i32], slots: &mut [i32])
-    requires { (at + 8 ≤ length bytes.now) × Aimed (class_at bytes.now at) (number_in bytes.now at) × (length slots.old ≡ 156) }
+fn fill_row(bytes: &[u8], at: usize, rec: &[i32], slots: &mut [i32; SLOTS])
+    requires { (at + 8 ≤ length bytes.now) × Aimed (class_at bytes.now at) (number_in bytes.now at) }
     ensures { slots.new ≡ set slots.old (slot (class_at bytes.now at) (number_in bytes.now at)) (carried rec.now (row_at bytes.now at)) }
 {
     let class = words::byte_at(bytes, at + 3);
     let number = words::byte_at(bytes, at + 4);
     let slot = slot_of(class, number);
-    let word = carried_by(bytes, at, rec);
-    slots[slot] = word;
+    slots[slot] = carried_by(bytes, at, rec);
 }
 
 // The slots of all rows, the last row first, so that a destination gets what its first row carries.
-fn fill_rows(bytes: &[u8], start: usize, count: usize, rec: &[i32], slots: &mut [i32])
+fn fill_rows(bytes: &[u8], start: usize, count: usize, rec: &[i32], slots: &mut [i32; SLOTS])
     requires { Rows bytes.now start count × (slots.old ≡ replicate 156 (pos 0)) }
     ensures { slots.new ≡ filled (rows_at bytes.now start count) rec.now }
 {
-    let mut left = count;
-    while 0 < left {
-        left -= 1;
-        fill_row(bytes, start + 8 * left, rec, slots);
+    for row in (0..count).rev() {
+        fill_row(bytes, start + 8 * row, rec, slots);
     }
 }
 
@@ -71,7 +71,7 @@ fn clear_eighth(rec: &mut [i32], marked: bool)
     ensures { rec.new ≡ cond marked (put rec.old (flag 8) (pos 0)) rec.old }
 {
     if marked {
-        record::put_eighth(rec, 0);
+        record::put(rec, Place::Flag(8), 0);
     }
 }
 
@@ -82,11 +82,12 @@ pub fn publish_words(bytes: &[u8], start: usize, count: usize, rec: &mut [i32], 
     ensures { (rec.new ≡ change (publish_word (rows_at bytes.now start count) rec.old) rec.old)
         × (outs.new ≡ outputs_of (rows_at bytes.now start count) rec.old) }
 {
-    let marked = record::is_marked(&rec[..]);
-    let mut slots = [0i32; SLOTS];
-    fill_rows(bytes, start, count, &rec[..], &mut slots);
-    record::put_outputs(outs, &slots[0..OUTPUTS]);
-    record::put_flags(rec, &slots[OUTPUTS..SLOTS]);
+    let marked = record::is_marked(rec);
+    let mut slots = [0; SLOTS];
+    fill_rows(bytes, start, count, rec, &mut slots);
+    let (shown, flags) = slots.split_at(OUTPUTS);
+    outs.copy_from_slice(shown);
+    record::put_all(rec, Place::Flag(1), flags);
     clear_eighth(rec, marked);
-    record::clear_head(rec);
+    record::clear_before(rec, Place::Input(1));
 }

@@ -8,7 +8,7 @@ mod sound;
 ghost use Rattle.std.specs.Prelude.{◌≡◌, ◌+◌, ◌≤◌, ◌<◌, ◌^◌, length, set, pos};
 ghost use Rattle.words.specs.Signed.{over, bit_of};
 ghost use Rattle.kinds.specs.Time.{ticks};
-ghost use Rattle.record.specs.Places.{phase, done, elapsed, size_of, index_of, at, word, put, words_of, put_words};
+ghost use Rattle.record.specs.Places.{phase, done, mark, elapsed, size_of, index_of, at, word, put, words_of, put_words};
 ghost use Rattle.record.specs.Sound.{in_scan};
 ghost use Rattle.record.specs.Written.{put_all, nothing};
 ghost use Rattle.record.specs.Said.{said, Counts};
@@ -61,6 +61,13 @@ pub fn done_of(rec: &[i32]) -> usize
     ensures { (result ≡ over (word rec.now done)) × (result < 2 ^ 31) }
 {
     word(rec, Place::Done).max(0) as usize
+}
+
+// Whether the first-scan mark is 1.
+pub fn is_marked(rec: &[i32]) -> bool
+    ensures { result ≡ bit_of (word rec.now mark) }
+{
+    word(rec, Place::Mark) != 0
 }
 
 // e, as the ticks since the last latch.

@@ -4,7 +4,7 @@ use Prim.Native.Nat.{◌+◌}
 use native.Mathlib.Omega.{arith}
 use mathlib.Core.Path.{◌≡◌}
 use borrow.Author.Tests.{le-leb, lt-leb}
-use Rattle.words.proofs.Locals.{back_to}
+use Rattle.std.proofs.Common.{rules}
 use Rattle.destinations.specs.Destinations.{carried}
 use Rattle.destinations.proofs.carried_by.Goals as goal
 
@@ -12,20 +12,12 @@ pub returns-then-byte_at-le-GREATEST_DIGITAL : goal.returns-then-byte_at-le-GREA
 unfolding carried
 returns-then-byte_at-le-GREATEST_DIGITAL c =
     let class = c.byte_at in
-    let number = c.two_at-number in
-    let from = c.byte_at-from in
-    let at = c.args.at in
-    let e : at + 5 + 1 ≡ at + 6 = omega arith in
-    rw (e, ← class.ensures.0, ← number.ensures.0, ← from.ensures.0, le-leb class.result 2 c.if-byte_at-le-GREATEST_DIGITAL.true, ← c.bit_from.ensures)
-    (back_to c.word_of.result c.word_of.type_inv c.word_of.ensures)
+    let e : c.args.at + 5 + 1 ≡ c.args.at + 6 = omega arith in
+    rw (e, ← class.ensures.0, ← c.two_at-number.ensures.0, ← c.byte_at-class.ensures.0, le-leb class.result 2 c.if-byte_at-le-GREATEST_DIGITAL.true, ← c.bit_from.ensures) (search rules)
 
-pub returns : goal.returns
+pub returns-else-byte_at-le-GREATEST_DIGITAL : goal.returns-else-byte_at-le-GREATEST_DIGITAL
 unfolding carried
-returns c =
+returns-else-byte_at-le-GREATEST_DIGITAL c =
     let class = c.byte_at in
-    let number = c.two_at-number in
-    let from = c.byte_at-from in
-    let at = c.args.at in
-    let e : at + 5 + 1 ≡ at + 6 = omega arith in
-    rw (e, ← class.ensures.0, ← number.ensures.0, ← from.ensures.0, lt-leb class.result 2 c.if-byte_at-le-GREATEST_DIGITAL.false)
-    (back_to c.value_from.result c.value_from.type_inv c.value_from.ensures)
+    let e : c.args.at + 5 + 1 ≡ c.args.at + 6 = omega arith in
+    rw (e, ← class.ensures.0, ← c.two_at-number.ensures.0, ← c.byte_at-class.ensures.0, lt-leb class.result 2 c.if-byte_at-le-GREATEST_DIGITAL.false, ← c.value_from.ensures) (search rules)
