@@ -17,7 +17,7 @@ use kinds::Ticks;
 pub use place::Place;
 pub use plan::Plan;
 use rules::BlockWords;
-pub use sound::{are_within, is_sound};
+pub use sound::{are_within, is_sound, is_within};
 
 // ---- one word
 

@@ -14,7 +14,7 @@ use crate::{in_scan, word, words_of};
 use kinds::KindTable;
 
 // Whether a word lies between two ends.
-fn is_within(z: i32, least: i32, greatest: i32) -> bool
+pub fn is_within(z: i32, least: i32, greatest: i32) -> bool
     ensures { result ≡ in_range (least to greatest) z }
 {
     least <= z && z <= greatest

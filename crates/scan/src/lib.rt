@@ -6,7 +6,7 @@ ghost use Rattle.kinds.specs.Table.{kinds_table};
 ghost use Rattle.refusals.specs.Faults.{◌when◌, lowest};
 ghost use Rattle.record.specs.Places.{size_of};
 ghost use Rattle.record.specs.Sound.{sound, in_scan};
-ghost use Rattle.record.specs.Written.{lines_at, Stand};
+ghost use Rattle.record.specs.Written.{lines_at};
 ghost use Rattle.steps.specs.Steps.{done_of};
 ghost use Rattle.calls.specs.Calls.{cold_start, warm_start, latch as latch_call, run as run_call, publish as publish_call, is_reading, answer_after, record_after, outputs_after};
 ghost use Rattle.scan.specs.Opened.{Opens};
@@ -14,14 +14,13 @@ ghost use Rattle.scan.specs.Opened.{Opens};
 use circuit::Outcome;
 use destinations::OUTPUTS;
 use kinds::KindTable;
+use record::Plan;
 use refusals::Answer;
 
 // A reading: 24 bits, then 8 values; the greatest value, and the greatest e.
 const READING: usize = 32;
 
 const BITS: usize = 24;
-
-const VALUES: usize = 8;
 
 const GREATEST_VALUE: i32 = 1000;
 
@@ -30,20 +29,15 @@ const GREATEST_E: i32 = 65535;
 // ---- judging
 
 // 20, 21, or 0 where neither holds.
-fn record_number(
-    kinds: &KindTable,
-    circuit: &[u8],
-    offsets: &[usize; 400],
-    n: usize,
-    rec: &[i32],
-) -> u8
-    requires { (kinds.now ≡ kinds_table) × Stand circuit.now n offsets.now }
-    ensures { result ≡ lowest (20 when not (eqb (length rec.now) (size_of n)) ∷ 21 when not (sound (lines_at circuit.now n offsets.now) rec.now) ∷ []) }
+fn record_number(kinds: &KindTable, plan: &Plan, rec: &[i32]) -> u8
+    requires { kinds.now ≡ kinds_table }
+    ensures { let lines = lines_at plan.now.bytes.now plan.now.n plan.now.offsets.now in
+        result ≡ lowest (20 when not (eqb (length rec.now) (size_of plan.now.n)) ∷ 21 when not (sound lines rec.now) ∷ []) }
 {
-    if rec.len() != record::size_of(n) {
+    if rec.len() != record::size_of(plan.n) {
         return 20;
     }
-    if record::is_sound(kinds, circuit, offsets, n, rec) {
+    if record::is_sound(kinds, plan, rec) {
         return 0;
     }
     21
@@ -59,7 +53,12 @@ fn opened(kinds: &KindTable, circuit: &[u8], rec: &[i32], offsets: &mut [usize; 
         return judged;
     }
     let head = judged.head;
-    let number = record_number(kinds, circuit, offsets, head.n, rec);
+    let plan = Plan {
+        bytes: circuit,
+        offsets,
+        n: head.n,
+    };
+    let number = record_number(kinds, &plan, rec);
     Outcome {
         number,
         place: 0,
@@ -74,17 +73,16 @@ fn is_reading(inputs: &[i32], e: i32) -> bool
     if inputs.len() != READING {
         return false;
     }
-    let bits = record::run_fits(inputs, 0, BITS, 0, 1);
-    let values = record::run_fits(inputs, BITS, VALUES, 0, GREATEST_VALUE);
-    let time = words::within(e, 0, GREATEST_E);
-    words::both(bits, words::both(values, time))
+    let (bits, values) = inputs.split_at(BITS);
+    record::are_within(bits, 0, 1)
+        & (record::are_within(values, 0, GREATEST_VALUE) & record::is_within(e, 0, GREATEST_E))
 }
 
 // Whether a scan has no blocks to go.
 fn is_finished(rec: &[i32], n: usize) -> bool
     ensures { result ≡ (in_scan rec.now && eqb (n - done_of rec.now) 0) }
 {
-    words::both(record::in_scan(rec), n <= record::done_of(rec))
+    record::in_scan(rec) & (n <= record::done_of(rec))
 }
 
 // ---- the calls
@@ -115,15 +113,19 @@ pub fn warm_start(circuit: &[u8], rec: &mut [i32]) -> Answer
 {
     let kinds = kinds::table();
     let mut offsets = [0usize; 400];
-    let judged = opened(&kinds, circuit, &rec[..], &mut offsets);
+    let judged = opened(&kinds, circuit, rec, &mut offsets);
     if judged.number != 0 {
         return refusals::refused_at(judged.number as usize, judged.place);
     }
-    if record::in_scan(&rec[..]) {
+    if record::in_scan(rec) {
         return refusals::refused_at(22, 0);
     }
-    let head = judged.head;
-    effects::warm_words(&kinds, circuit, &offsets, rec, head.n);
+    let plan = Plan {
+        bytes: circuit,
+        offsets: &offsets,
+        n: judged.head.n,
+    };
+    effects::warm_words(&kinds, &plan, rec);
     refusals::accepted_with(0, 0)
 }
 
@@ -134,11 +136,11 @@ pub fn latch(circuit: &[u8], rec: &mut [i32], inputs: &[i32], e: i32) -> Answer
 {
     let kinds = kinds::table();
     let mut offsets = [0usize; 400];
-    let judged = opened(&kinds, circuit, &rec[..], &mut offsets);
+    let judged = opened(&kinds, circuit, rec, &mut offsets);
     if judged.number != 0 {
         return refusals::refused_at(judged.number as usize, judged.place);
     }
-    if record::in_scan(&rec[..]) {
+    if record::in_scan(rec) {
         return refusals::refused_at(22, 0);
     }
     if is_reading(inputs, e) {
@@ -155,13 +157,17 @@ pub fn run(circuit: &[u8], rec: &mut [i32], c: u32) -> Answer
 {
     let kinds = kinds::table();
     let mut offsets = [0usize; 400];
-    let judged = opened(&kinds, circuit, &rec[..], &mut offsets);
+    let judged = opened(&kinds, circuit, rec, &mut offsets);
     if judged.number != 0 {
         return refusals::refused_at(judged.number as usize, judged.place);
     }
-    if record::in_scan(&rec[..]) {
-        let head = judged.head;
-        let done = steps::turn(&kinds, circuit, &offsets, head.n, rec, c);
+    if record::in_scan(rec) {
+        let plan = Plan {
+            bytes: circuit,
+            offsets: &offsets,
+            n: judged.head.n,
+        };
+        let done = steps::turn(&kinds, &plan, rec, c);
         return refusals::accepted_with(done.worked, done.left);
     }
     refusals::refused_at(22, 0)
@@ -175,12 +181,12 @@ pub fn publish(circuit: &[u8], rec: &mut [i32], outs: &mut [i32]) -> Answer
 {
     let kinds = kinds::table();
     let mut offsets = [0usize; 400];
-    let judged = opened(&kinds, circuit, &rec[..], &mut offsets);
+    let judged = opened(&kinds, circuit, rec, &mut offsets);
     if judged.number != 0 {
         return refusals::refused_at(judged.number as usize, judged.place);
     }
     let head = judged.head;
-    if is_finished(&rec[..], head.n) {
+    if is_finished(rec, head.n) {
         if outs.len() != OUTPUTS {
             return refusals::refused_at(24, 0);
         }

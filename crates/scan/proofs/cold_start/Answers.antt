@@ -33,7 +33,7 @@ cold_words-requires c =
     let says = at-ours c.ours.ensures c.judge-judged.ensures in
     let few = (says.accepts c.if-judged-ne0.false).few in
     let long = rw c.size_of.ensures at c.if-rec-size_of.false in
-    (omega arith, omega arith)
+    omega arith
 
 pub returns : goal.returns
 returns c =

@@ -16,4 +16,4 @@ none_left n d = by (leb n d) refl
     by false e = sym (ne_eqb (n - d) 0 (λ z. omega (arith, leb-false n d e)))
 
 pub returns : goal.returns
-returns c = rw (← c.done_of.ensures.0, ← none_left c.args.n c.done_of.result, ← c.in_scan.ensures) c.both.ensures
+returns c = rw (← c.done_of.ensures.0, ← none_left c.args.n c.done_of.result, ← c.in_scan.ensures)

@@ -15,10 +15,10 @@ returns-then-judged-ne0 c =
     let says = at-ours c.ours.ensures c.judge-judged.ensures in
     circuit-judged s c.args.rec.now c.judge-judged.result offsets says c.if-judged-ne0.true
 
-pub record_number-number-requires : goal.record_number-number-requires
-record_number-number-requires c =
+pub invariant_of-plan : goal.invariant_of-plan
+invariant_of-plan c =
     let says = at-ours c.ours.ensures c.judge-judged.ensures in
-    (c.requires.0, stands c.args.circuit.now c.judge-judged.result.head c.judge-judged.new.offsets (says.accepts c.if-judged-ne0.false))
+    record { stand = stands c.args.circuit.now c.judge-judged.result.head c.judge-judged.new.offsets (says.accepts c.if-judged-ne0.false) }
 
 pub returns : goal.returns
 returns c =

@@ -17,7 +17,7 @@ returns-then-in_scan c =
 pub warm_words-requires : goal.warm_words-requires
 warm_words-requires c =
     let runs = (c.opened-judged.ensures.accepts c.if-judged-ne0.false).runs in
-    (c.table-kinds.ensures, runs.stand, runs.long)
+    (c.table-kinds.ensures, runs.long)
 
 pub returns : goal.returns
 returns c =
