@@ -5,45 +5,11 @@ use mathlib.Core.Bool.{false}
 use mathlib.Core.List.{List, ◌++◌}
 use lib.ListN.{length, take, drop}
 use lib.IntN.{ℤ}
-use borrow.Author.Tests.{eq-eqb, ne_eqb}
 use Rattle.refusals.specs.declared.Answer.{Answer}
 use Rattle.circuit.specs.Circuit.{answer_of}
-use Rattle.calls.specs.Calls.{Call, cold_start, warm_start, latch, run, publish, answer_after, record_after, outputs_after}
+use Rattle.calls.specs.Calls.{Call, latch, publish, answer_after, record_after, outputs_after}
 use Rattle.calls.specs.Play.{AnyCall, check, on, moment, reply_to, after}
 use Rattle.calls.proofs.Outputs.{closes, reply-kept, after_kept, reply-publish, after-publish}
-use Rattle.player.specs.Orders.{call_of}
-
--- ---- the call of a number
-
-module _ (which c : ℕ) (e : ℤ) (r : List ℤ) where
-  pub is-cold-start : which ≡ 0 → call_of which c e r ≡ on cold_start
-  unfolding call_of
-  is-cold-start is = rw (eq-eqb which 0 is)
-
-  module _ (not-0 : which ≡ 0 → ⊥) where
-    pub is-warm-start : which ≡ 1 → call_of which c e r ≡ on warm_start
-    unfolding call_of
-    is-warm-start is = rw (ne_eqb which 0 not-0, eq-eqb which 1 is)
-
-    module _ (not-1 : which ≡ 1 → ⊥) where
-      pub is-latch : which ≡ 2 → call_of which c e r ≡ on (latch r e)
-      unfolding call_of
-      is-latch is = rw (ne_eqb which 0 not-0, ne_eqb which 1 not-1, eq-eqb which 2 is)
-
-      module _ (not-2 : which ≡ 2 → ⊥) where
-        pub is-run : which ≡ 3 → call_of which c e r ≡ on (run c)
-        unfolding call_of
-        is-run is = rw (ne_eqb which 0 not-0, ne_eqb which 1 not-1, ne_eqb which 2 not-2, eq-eqb which 3 is)
-
-        module _ (not-3 : which ≡ 3 → ⊥) where
-          pub is-publish : which ≡ 4 → call_of which c e r ≡ on (publish c)
-          unfolding call_of
-          is-publish is = rw (ne_eqb which 0 not-0, ne_eqb which 1 not-1, ne_eqb which 2 not-2, ne_eqb which 3 not-3, eq-eqb which 4 is)
-
-          pub is-check : (which ≡ 4 → ⊥) → call_of which c e r ≡ check
-          unfolding call_of
-          is-check not-4 =
-              rw (ne_eqb which 0 not-0, ne_eqb which 1 not-1, ne_eqb which 2 not-2, ne_eqb which 3 not-3, ne_eqb which 4 not-4)
 
 -- ---- a call that is made, from its own contract
 
