@@ -4,14 +4,23 @@ ghost use Rattle.kinds.specs.Table.{kinds_table};
 ghost use Rattle.blockfield.specs.Marked.{Lies};
 ghost use Rattle.decoding.specs.Decoded.{block_at};
 ghost use Rattle.lines.specs.Lines.{line_of};
-ghost use Rattle.record.specs.Places.{size_of};
+ghost use Rattle.record.specs.Places.{size_of, index_of, word};
+ghost use Rattle.record.specs.Said.{said, Counts};
 ghost use Rattle.record.specs.Sound.{at_rest, sound};
 ghost use Rattle.record.specs.Written.{all_fit, head_fits, fixed_fit, block_fits, blocks_fit, lines_at};
 
+use crate::in_scan;
 use crate::place::{ANALOG_FLAGS, ANALOGS, BLOCKS, FLAGS, INPUTS, Place};
 use crate::plan::Plan;
-use crate::{in_scan, word, words_of};
 use kinds::KindTable;
+
+// The word at a place that the record has.
+fn held(rec: &[i32], place: Place) -> i32
+    requires { Counts place × (index_of (said place) < length rec.now) }
+    ensures { result ≡ word rec.now (said place) }
+{
+    rec[place.index()]
+}
 
 // Whether a word lies between two ends.
 pub fn is_within(z: i32, least: i32, greatest: i32) -> bool
@@ -33,10 +42,10 @@ fn head_fits(rec: &[i32], n: usize) -> bool
     requires { (n ≤ 400) × (size_of 0 ≤ length rec.now) }
     ensures { result ≡ head_fits n rec.now }
 {
-    is_within(word(rec, Place::Phase), 0, 1)
-        & is_within(word(rec, Place::Done), 0, n as i32)
-        & is_within(word(rec, Place::Mark), 0, 1)
-        & is_within(word(rec, Place::Elapsed), 0, 65535)
+    is_within(held(rec, Place::Phase), 0, 1)
+        & is_within(held(rec, Place::Done), 0, n as i32)
+        & is_within(held(rec, Place::Mark), 0, 1)
+        & is_within(held(rec, Place::Elapsed), 0, 65535)
 }
 
 // Whether all words but those of blocks are in their ranges, for n blocks.
@@ -53,17 +62,16 @@ fn fixed_fit(rec: &[i32], n: usize) -> bool
 }
 
 // Whether the three words of block k, which stands at a place of the bytes, are in their ranges.
-#[tactic(auto, unfolding(lines::specs::Lines::line_of, crate::specs::Written::block_fits))]
+#[tactic(auto, unfolding(lines::specs::Lines::line_of, crate::specs::Places::index_of, crate::specs::Written::block_fits))]
 fn block_fits(kinds: &KindTable, bytes: &[u8], at: usize, rec: &[i32], k: usize) -> bool
     requires { (kinds.now ≡ kinds_table) × Lies bytes.now at × (k ≤ 400) × (size_of k ≤ length rec.now) }
     ensures { result ≡ block_fits (line_of (block_at bytes.now at)) rec.now k }
 {
     let kind = lines::kind_at(bytes, at);
     let time = lines::time_at(kinds, bytes, at);
-    let w = words_of(rec, k);
-    let output = kinds::output_fits(kinds, kind, w.output);
-    let remembered = kinds::remembered_fits(kinds, kind, w.remembered);
-    let number = kinds::number_fits(kinds, kind, time, w.number);
+    let output = kinds::output_fits(kinds, kind, held(rec, Place::Output(k)));
+    let remembered = kinds::remembered_fits(kinds, kind, held(rec, Place::Remembered(k)));
+    let number = kinds::number_fits(kinds, kind, time, held(rec, Place::Number(k)));
     output & (remembered & number)
 }
 
@@ -80,10 +88,12 @@ fn blocks_fit(kinds: &KindTable, plan: &Plan, rec: &[i32]) -> bool
 }
 
 // Whether blocks done and e are 0.
+#[tactic(auto, unfolding(crate::specs::Places::index_of))]
 fn at_rest(rec: &[i32]) -> bool
+    requires { size_of 0 ≤ length rec.now }
     ensures { result ≡ at_rest rec.now }
 {
-    (word(rec, Place::Done) == 0) & (word(rec, Place::Elapsed) == 0)
+    (held(rec, Place::Done) == 0) & (held(rec, Place::Elapsed) == 0)
 }
 
 // Whether a record is sound for the blocks of a circuit.
