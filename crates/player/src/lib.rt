@@ -41,11 +41,8 @@ fn publish_first(circuit: &[u8], rec: &mut [i32], outs: &mut [i32], k: u32) -> A
     ensures { (result ≡ reply_to circuit.now (on (publish k)) (moment rec.old outs.old))
         × (moment rec.new outs.new ≡ after circuit.now (on (publish k)) (moment rec.old outs.old)) }
 {
-    let n = k as usize;
-    if n < outs.len() {
-        return scan::publish(circuit, rec, &mut outs[..n]);
-    }
-    scan::publish(circuit, rec, outs)
+    let n = outs.len().min(k as usize);
+    scan::publish(circuit, rec, &mut outs[..n])
 }
 
 // Makes one call: latch with all input words and e, run up to c blocks, publish with the first c output words.
