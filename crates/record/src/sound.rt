@@ -26,7 +26,7 @@ fn held(rec: &[i32], place: Place) -> i32
 pub fn is_within(z: i32, least: i32, greatest: i32) -> bool
     ensures { result ≡ in_range (least to greatest) z }
 {
-    least <= z && z <= greatest
+    (least..=greatest).contains(&z)
 }
 
 // Whether all of some words do.
