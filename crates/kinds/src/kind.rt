@@ -180,9 +180,9 @@ impl Kind {
         ensures { result ≡ in_range (output_range (kind_of (byte_of self))) x }
     {
         if self.is_analog() {
-            -32768 <= x && x <= 32767
+            (-32768..=32767).contains(&x)
         } else {
-            0 <= x && x <= 1
+            (0..=1).contains(&x)
         }
     }
 
@@ -190,7 +190,7 @@ impl Kind {
     pub fn remembered_fits(self, x: i32) -> bool
         ensures { result ≡ in_range (remembered_range (kind_of (byte_of self))) x }
     {
-        0 <= x && x <= self.row().remembered
+        (0..=self.row().remembered).contains(&x)
     }
 
     // Whether it may have this number, by the ticks set.
@@ -210,21 +210,24 @@ fn settings_fit(n: usize, params: [i32; 4]) -> bool
     requires { n ≤ 3 }
     ensures { result ≡ settings_fit n params }
 {
-    let mut fit = true;
     for j in 0..n {
-        fit = setting_fits(params[0], params[j + 1]) & fit;
+        if !setting_fits(params[0], params[j + 1]) {
+            return false;
+        }
     }
-    fit
+    true
 }
 
 // Whether none of the first n settings is greater than the one before it.
+#[tactic(auto, using(crate::proofs::Allowed::order_fails))]
 fn in_order(n: usize, params: [i32; 4]) -> bool
     requires { n ≤ 3 }
     ensures { result ≡ in_order n params }
 {
-    let mut falling = true;
     for j in 1..n {
-        falling = (params[j + 1] <= params[j]) & falling;
+        if params[j] < params[j + 1] {
+            return false;
+        }
     }
-    falling
+    true
 }

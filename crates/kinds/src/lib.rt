@@ -11,7 +11,8 @@ mod table;
 
 pub use kind::{Kind, UnknownKind};
 
-// A number in its timebase: the base (0 seconds, 1 minutes, 2 hours), and the number.
+// A number in its timebase: the base (0 seconds, 1 minutes, 2 hours), and the number. The definitions setting_of and ticks_of hold it to
+// this form: a base that is no parameter of an allowed block counts hours.
 #[derive(Clone, Copy)]
 pub struct Setting(pub u8, pub u16);
 
@@ -54,5 +55,5 @@ pub fn longest_of(base: i32) -> i32
 pub fn setting_fits(base: i32, t: i32) -> bool
     ensures { result ≡ setting_fits base t }
 {
-    0 <= t && t <= longest_of(base)
+    (0..=longest_of(base)).contains(&t)
 }
