@@ -2,6 +2,7 @@
 #![tactic(auto)]
 
 ghost use Rattle.std.specs.Prelude.{◌≡◌, cond, ◌+◌, ◌≤◌, ◌<◌, length, set, replicate, pos};
+ghost use Rattle.fields.specs.Codes.{class_code};
 ghost use Rattle.fields.specs.Fields.{class_at, number_in};
 ghost use Rattle.decoding.specs.Decoded.{row_at};
 ghost use Rattle.decoding.specs.Held.{rows_at};
@@ -9,10 +10,9 @@ ghost use Rattle.record.specs.Places.{flag, put, change};
 ghost use Rattle.destinations.specs.Destinations.{carried, outputs_of, publish_word};
 ghost use Rattle.destinations.specs.Slots.{slot, filled, Aimed, Rows};
 
+use fields::Destination;
+use lines::Input;
 use record::Place;
-
-// M, the greatest class of a digital destination.
-const GREATEST_DIGITAL: usize = 2;
 
 // Slots, one for each destination: Q, AQ, then the flags as they stand in a record, M and AM.
 const SLOTS: usize = 156;
@@ -20,28 +20,43 @@ const SLOTS: usize = 156;
 // Those of the outputs, Q and AQ.
 pub const OUTPUTS: usize = 28;
 
-// The slots before those of each destination class: none is 0, Q, M, AQ, AM.
-static BEFORE: [usize; 5] = [0, 0, 28, 20, 92];
-
 // The slot of a destination.
-fn slot_of(class: usize, number: usize) -> usize
-    requires { Aimed class number }
-    ensures { (result ≡ slot class number) × (result < 156) }
+fn slot_of(class: Destination, number: usize) -> usize
+    requires { Aimed (class_code class) number }
+    ensures { (result ≡ slot (class_code class) number) × (result < 156) }
 {
-    BEFORE[class] + (number - 1)
+    let before = match class {
+        Destination::Output => 0,
+        Destination::AnalogOutput => 20,
+        Destination::Flag => 28,
+        Destination::AnalogFlag => 92,
+    };
+    before + (number - 1)
 }
 
-// What the row at a place carries.
-fn carried_by(bytes: &[u8], at: usize, rec: &[i32]) -> i32
-    requires { at + 8 ≤ length bytes.now }
+// The class of what the row at a place goes to.
+fn class_of(bytes: &[u8], at: usize) -> Destination
+    requires { (at + 8 ≤ length bytes.now) × Aimed (class_at bytes.now at) (number_in bytes.now at) }
+    ensures { class_code result ≡ class_at bytes.now at }
+{
+    let Ok(class) = Destination::try_from(bytes[at + 3]) else {
+        unreachable!()
+    };
+    class
+}
+
+// What the row at a place carries: a bit or a number, by the class of what it goes to.
+fn carried_by(bytes: &[u8], at: usize, class: Destination, rec: &[i32]) -> i32
+    requires { (at + 8 ≤ length bytes.now) × (class_code class ≡ class_at bytes.now at) }
     ensures { result ≡ carried rec.now (row_at bytes.now at) }
 {
-    let class = words::byte_at(bytes, at + 5);
-    let number = words::two_at(bytes, at + 6);
-    if words::byte_at(bytes, at + 3) <= GREATEST_DIGITAL {
-        steps::bit_from(rec, false, class, number) as i32
-    } else {
-        steps::value_from(rec, class, number)
+    let from = Input {
+        class: bytes[at + 5],
+        number: words::two_at(bytes, at + 6) as u16,
+    };
+    match class {
+        Destination::Output | Destination::Flag => steps::bit_from(rec, false, from) as i32,
+        Destination::AnalogOutput | Destination::AnalogFlag => steps::value_from(rec, from),
     }
 }
 
@@ -50,10 +65,9 @@ fn fill_row(bytes: &[u8], at: usize, rec: &[i32], slots: &mut [i32; SLOTS])
     requires { (at + 8 ≤ length bytes.now) × Aimed (class_at bytes.now at) (number_in bytes.now at) }
     ensures { slots.new ≡ set slots.old (slot (class_at bytes.now at) (number_in bytes.now at)) (carried rec.now (row_at bytes.now at)) }
 {
-    let class = words::byte_at(bytes, at + 3);
-    let number = words::byte_at(bytes, at + 4);
-    let slot = slot_of(class, number);
-    slots[slot] = carried_by(bytes, at, rec);
+    let class = class_of(bytes, at);
+    let slot = slot_of(class, bytes[at + 4] as usize);
+    slots[slot] = carried_by(bytes, at, class, rec);
 }
 
 // The slots of all rows, the last row first, so that a destination gets what its first row carries.

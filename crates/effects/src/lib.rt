@@ -2,7 +2,6 @@
 #![tactic(auto)]
 
 ghost use Rattle.std.specs.Prelude.{◌≡◌, cond, ◌+◌, ◌≤◌, ◌<◌, get_or, length, pos};
-ghost use Rattle.kinds.specs.Table.{kinds_table};
 ghost use Rattle.rules.specs.Rules.{three};
 ghost use Rattle.decoding.specs.Decoded.{block_at};
 ghost use Rattle.lines.specs.Lines.{line_of};
@@ -11,7 +10,6 @@ ghost use Rattle.record.specs.Written.{lines_at};
 ghost use Rattle.calls.specs.Calls.{cold_word, warm_word, latch_word};
 ghost use Rattle.effects.specs.Cleared.{cleared_up_to};
 
-use kinds::KindTable;
 use record::{Place, Plan};
 
 // The mark and M8 become 1.
@@ -42,32 +40,31 @@ pub fn latch_words(rec: &mut [i32], inputs: &[i32], e: i32)
 }
 
 // Zeroes the words of the block behind the first d, where it is not retentive.
-fn clear_block(kinds: &KindTable, plan: &Plan, rec: &mut [i32], d: usize)
-    requires { (kinds.now ≡ kinds_table) × (d < plan.now.n) }
+fn clear_block(plan: &Plan, rec: &mut [i32], d: usize)
+    requires { d < plan.now.n }
     ensures { let line = line_of (block_at plan.now.bytes.now (get_or plan.now.offsets.now d 0)) in
         rec.new ≡ cond line.retentive rec.old (put_words rec.old (d + 1) (three (pos 0) (pos 0) (pos 0))) }
 {
-    if !plan.line(kinds, d).retentive {
+    if !plan.line(d).retentive {
         record::put_words(rec, d + 1, rules::three_of(0, 0, 0));
     }
 }
 
 // Those of all blocks.
-fn clear_blocks(kinds: &KindTable, plan: &Plan, rec: &mut [i32])
-    requires { kinds.now ≡ kinds_table }
+fn clear_blocks(plan: &Plan, rec: &mut [i32])
     ensures { rec.new ≡ cleared_up_to plan.now.bytes.now plan.now.offsets.now plan.now.n rec.old }
 {
     for d in 0..plan.n {
-        clear_block(kinds, plan, rec, d);
+        clear_block(plan, rec, d);
     }
 }
 
 // What an accepted warm start does.
-pub fn warm_words(kinds: &KindTable, plan: &Plan, rec: &mut [i32])
-    requires { (kinds.now ≡ kinds_table) × (length rec.old ≡ size_of plan.now.n) }
+pub fn warm_words(plan: &Plan, rec: &mut [i32])
+    requires { length rec.old ≡ size_of plan.now.n }
     ensures { rec.new ≡ change (warm_word (lines_at plan.now.bytes.now plan.now.n plan.now.offsets.now)) rec.old }
 {
-    clear_blocks(kinds, plan, rec);
+    clear_blocks(plan, rec);
     record::clear_before(rec, Place::Output(1));
     begin(rec);
 }

@@ -1,10 +1,8 @@
 ghost use Rattle.std.specs.Prelude.{◌≡◌, ◌<◌, get_or};
-ghost use Rattle.kinds.specs.Table.{kinds_table};
 ghost use Rattle.decoding.specs.Decoded.{block_at};
-ghost use Rattle.lines.specs.Lines.{line_of};
+ghost use Rattle.lines.specs.Lines.{line_of, line_said};
 ghost use Rattle.record.specs.Written.{Stand};
 
-use kinds::KindTable;
 use lines::Line;
 
 // The blocks of a circuit: its bytes, and where each of the n stands in them.
@@ -18,10 +16,10 @@ pub struct Plan<'a> {
 
 impl<'a> Plan<'a> {
     // The line of the block behind the first d.
-    pub fn line(&self, kinds: &KindTable, d: usize) -> Line
-        requires { (kinds.now ≡ kinds_table) × (d < self.now.n) }
-        ensures { result ≡ line_of (block_at self.now.bytes.now (get_or self.now.offsets.now d 0)) }
+    pub fn line(&self, d: usize) -> Line
+        requires { d < self.now.n }
+        ensures { line_said result ≡ line_of (block_at self.now.bytes.now (get_or self.now.offsets.now d 0)) }
     {
-        lines::line_at(kinds, self.bytes, self.offsets[d])
+        lines::line_at(self.bytes, self.offsets[d])
     }
 }

@@ -1,6 +1,5 @@
 ghost use Rattle.std.specs.Prelude.{◌≡◌, ◌+◌, ◌≤◌, ◌<◌, get_or, length};
 ghost use Rattle.kinds.specs.Kinds.{◌to◌, in_range};
-ghost use Rattle.kinds.specs.Table.{kinds_table};
 ghost use Rattle.blockfield.specs.Marked.{Lies};
 ghost use Rattle.decoding.specs.Decoded.{block_at};
 ghost use Rattle.lines.specs.Lines.{line_of};
@@ -12,7 +11,6 @@ ghost use Rattle.record.specs.Written.{all_fit, head_fits, fixed_fit, block_fits
 use crate::in_scan;
 use crate::place::{ANALOG_FLAGS, ANALOGS, BLOCKS, FLAGS, INPUTS, Place};
 use crate::plan::Plan;
-use kinds::KindTable;
 
 // The word at a place that the record has.
 fn held(rec: &[i32], place: Place) -> i32
@@ -63,26 +61,26 @@ fn fixed_fit(rec: &[i32], n: usize) -> bool
 
 // Whether the three words of block k, which stands at a place of the bytes, are in their ranges.
 #[tactic(auto, unfolding(lines::specs::Lines::line_of, crate::specs::Places::index_of, crate::specs::Written::block_fits))]
-fn block_fits(kinds: &KindTable, bytes: &[u8], at: usize, rec: &[i32], k: usize) -> bool
-    requires { (kinds.now ≡ kinds_table) × Lies bytes.now at × (k ≤ 400) × (size_of k ≤ length rec.now) }
+fn block_fits(bytes: &[u8], at: usize, rec: &[i32], k: usize) -> bool
+    requires { Lies bytes.now at × (k ≤ 400) × (size_of k ≤ length rec.now) }
     ensures { result ≡ block_fits (line_of (block_at bytes.now at)) rec.now k }
 {
     let kind = lines::kind_at(bytes, at);
-    let time = lines::time_at(kinds, bytes, at);
-    let output = kinds::output_fits(kinds, kind, held(rec, Place::Output(k)));
-    let remembered = kinds::remembered_fits(kinds, kind, held(rec, Place::Remembered(k)));
-    let number = kinds::number_fits(kinds, kind, time, held(rec, Place::Number(k)));
+    let time = lines::time_at(bytes, at);
+    let output = kind.output_fits(held(rec, Place::Output(k)));
+    let remembered = kind.remembered_fits(held(rec, Place::Remembered(k)));
+    let number = kind.number_fits(time, held(rec, Place::Number(k)));
     output & (remembered & number)
 }
 
 // Whether those of all blocks are.
-fn blocks_fit(kinds: &KindTable, plan: &Plan, rec: &[i32]) -> bool
-    requires { (kinds.now ≡ kinds_table) × (length rec.now ≡ size_of plan.now.n) }
+fn blocks_fit(plan: &Plan, rec: &[i32]) -> bool
+    requires { length rec.now ≡ size_of plan.now.n }
     ensures { result ≡ blocks_fit plan.now.bytes.now plan.now.n plan.now.offsets.now rec.now }
 {
     let mut ok = true;
     for d in 0..plan.n {
-        ok &= block_fits(kinds, plan.bytes, plan.offsets[d], rec, d + 1);
+        ok &= block_fits(plan.bytes, plan.offsets[d], rec, d + 1);
     }
     ok
 }
@@ -98,11 +96,11 @@ fn at_rest(rec: &[i32]) -> bool
 
 // Whether a record is sound for the blocks of a circuit.
 #[tactic(auto, using(crate::proofs::Split::parts))]
-pub fn is_sound(kinds: &KindTable, plan: &Plan, rec: &[i32]) -> bool
-    requires { (kinds.now ≡ kinds_table) × (length rec.now ≡ size_of plan.now.n) }
+pub fn is_sound(plan: &Plan, rec: &[i32]) -> bool
+    requires { length rec.now ≡ size_of plan.now.n }
     ensures { result ≡ sound (lines_at plan.now.bytes.now plan.now.n plan.now.offsets.now) rec.now }
 {
     let fixed = fixed_fit(rec, plan.n);
-    let blocks = blocks_fit(kinds, plan, rec);
+    let blocks = blocks_fit(plan, rec);
     fixed & blocks & (in_scan(rec) | at_rest(rec))
 }
