@@ -1,12 +1,12 @@
 -- The pass goes as the verdict walks: field by field, by tag, to the end field and what is behind it. Assumes nothing.
-use Rattle.std.specs.Prelude.{Result, Ok, Err}
+use Rattle.std.specs.Prelude.{Ok, Err}
 use mathlib.Core.Path.{◌≡◌, refl, ap, ap₂, sym, ◌∙◌, subst}
 use mathlib.Core.Bool.{Bool, true, false}
 use mathlib.Core.List.{List, [], ◌∷◌, map}
 use Prim.Native.Nat.{ℕ, zero, suc, ◌+◌, ◌-◌, ◌≤◌, ◌<◌}
 use native.Mathlib.Omega.{arith}
 use lib.Dec.{ltb}
-use lib.ListN.{length, get_or, take, replicate, get_or-replicate, length-replicate}
+use lib.ListN.{length, get_or, take, get_or-replicate, length-replicate}
 use borrow.Author.Tests.{lt-ltb, le-ltb, eq-eqb, ne_eqb, ltb-false}
 use Rattle.refusals.specs.Faults.{Fault, lowest, ◌when◌}
 use Rattle.refusals.specs.Stages.{ended}
@@ -15,9 +15,9 @@ use Rattle.refusals.specs.declared.Limits.{Limits}
 use Rattle.fields.specs.Marks.{mark}
 use Rattle.fields.proofs.Laws.{mark-below}
 use Rattle.decoding.specs.Decoded.{header_in, block_in, label_in, row_in, end_in, State, index_used, destination_used, size_at, next_at, header_taken, block_taken, label_taken, row_taken, end_taken, nothing, circuit_of, block_at}
-use Rattle.circuit.specs.Circuit.{is_cut, tag_faults, field_faults, field_number, taken, closing, walk, refused, accepted, verdict_at, answer_to, answer_at}
-use Rattle.decoding.specs.Held.{rows_at, Seen, seen, head_of, Nothing, Judged, judged, Judges, Sound, Holds}
-use Rattle.decoding.specs.declared.field.Field.{Field}
+use Rattle.circuit.specs.Circuit.{is_cut, tag_faults, field_faults, field_number, taken, closing, walk, refused, accepted, verdict_at}
+use Rattle.decoding.specs.Held.{rows_at, Seen, seen, head_of, Nothing, Judged, Judges, Sound, Holds}
+use Rattle.refusals.specs.declared.Field.{Field}
 use Rattle.decoding.specs.declared.known.Known.{Known}
 use Rattle.circuit.specs.Read.{Reads}
 use Rattle.circuit.specs.Judged.{Accepts, Answers, Says}
@@ -222,7 +222,7 @@ module _ (limits : Limits) (s : List ℕ) (at : ℕ) (seen : Seen) (w : Reached 
       fits : next_at s at ≤ length s
       fits = field_fits limits s at w.st (sym step.number_is ∙ z)
 
-      pub falls : length s - r.next < length s - at
+      falls : length s - r.next < length s - at
       falls = omega (arith, fits, step.next-is z)
 
       pub goes_on : Reached limits s r.next r.seen

@@ -3,7 +3,7 @@ use Rattle.std.specs.Prelude.{ℕ, ◌≡◌, true, List, Result, Ok, Err}
 use Rattle.refusals.specs.declared.Refusal.{Refusal}
 use Rattle.refusals.specs.declared.Refusal.TheVariants.{CutShort}
 use Rattle.decoding.specs.Decoded.{size_at, next_at}
-use Rattle.decoding.specs.declared.field.Field.{Field}
+use Rattle.refusals.specs.declared.Field.{Field}
 use Rattle.circuit.specs.Circuit.{is_cut}
 
 -- the field at a place and where the next one begins, or that the bytes end inside it

@@ -1,8 +1,7 @@
 ghost use Rattle.std.specs.Prelude.{◌≡◌, ◌≤◌, length};
 ghost use Rattle.circuit.specs.Read.{Reads};
 
-use decoding::Field;
-use refusals::Refusal;
+use refusals::{Field, Refusal};
 
 // The fields of a circuit from a place on.
 #[derive(Clone, Copy)]

@@ -2,7 +2,6 @@
 #![tactic(auto)]
 
 ghost use Rattle.std.specs.Prelude.{◌≡◌};
-ghost use Rattle.kinds.specs.Table.{kinds_table};
 ghost use Rattle.refusals.specs.Limited.{older};
 ghost use Rattle.refusals.specs.Stages.{ended, stage_of};
 ghost use Rattle.refusals.specs.Modest.{Modest};
@@ -15,27 +14,22 @@ mod cursor;
 
 use cursor::Fields;
 use decoding::Known;
-use kinds::KindTable;
 use refusals::{Answer, Limits, OLDER, OURS, Refusal, Refused, Stage};
 
 // Takes the next field, by its tag.
-fn take_next(
-    limits: Limits,
-    kinds: &KindTable,
-    fields: &mut Fields,
-    known: &mut Known,
-) -> Result<(), Refusal>
-    requires { (kinds.now ≡ kinds_table) × Sound (head_of known.old) fields.old.at × Modest limits × (stage_of known.old.stage ≡ ended → ⊥) }
+fn take_next(limits: &Limits, fields: &mut Fields, known: &mut Known) -> Result<(), Refusal>
+    requires { Sound (head_of known.old) fields.old.at × Modest limits.now × (stage_of known.old.stage ≡ ended → ⊥) }
     ensures same { fields.new.bytes.now ≡ fields.old.bytes.now }
-    ensures answers { Answers limits fields.old.bytes.now fields.old.at (seen known.old) (judged result fields.new.at (seen known.new)) }
+    ensures answers { Answers limits.now fields.old.bytes.now fields.old.at (seen known.old) (judged result fields.new.at (seen known.new)) }
 {
     let field = fields.read()?;
-    match words::byte_at(field.bytes, field.at) {
-        0x01 => known.header(limits, field),
-        0x10 => known.block(limits, kinds, field),
-        0x20 => known.label(field),
-        0x30 => known.row(limits, field),
-        0x7F => known.end(field),
+    let tag = field.bytes[field.at];
+    match tag {
+        0x01 => known.header(limits, &field),
+        0x10 => known.block(limits, &field),
+        0x20 => known.label(&field),
+        0x30 => known.row(limits, &field),
+        0x7F => known.end(&field),
         _ => Err(Refusal::TagOrLength),
     }
 }
@@ -45,12 +39,11 @@ pub fn judge(limits: Limits, circuit: &[u8], known: &mut Known) -> Result<(), Re
     requires { Modest limits }
     ensures { Says limits circuit.now result known.new }
 {
-    let kinds = kinds::table();
     known.begin();
     let mut fields = Fields::new(circuit);
     while known.stage != Stage::Ended {
         let place = fields.place();
-        if let Err(refusal) = take_next(limits, &kinds, &mut fields, known) {
+        if let Err(refusal) = take_next(&limits, &mut fields, known) {
             return Err(refusal.at(place));
         }
     }

@@ -11,7 +11,7 @@ use Rattle.blockfield.specs.Marked.{index_mark, Lies}
 use Rattle.fields.specs.Fields.{limit_of}
 use Rattle.fields.specs.Marks.{mark}
 use Rattle.decoding.specs.Decoded.{Block, Row, State, sorts_of, index_used, destination_used, block_at, row_at}
-use Rattle.decoding.specs.declared.field.Field.{Field}
+use Rattle.refusals.specs.declared.Field.{Field}
 use Rattle.decoding.specs.declared.known.Known.{Known}
 
 -- a block without its label

@@ -1,16 +1,16 @@
 ghost use Rattle.std.specs.Prelude.{◌≡◌, ◌+◌, ◌≤◌, length, pos};
 ghost use Rattle.words.specs.Signed.{Between};
-ghost use Rattle.kinds.specs.Table.{kinds_table};
+ghost use Rattle.kinds.specs.Codes.{byte_of};
+ghost use Rattle.blockfield.specs.BlockField.{kind_at, signed_at, index_from, shift_register};
 ghost use Rattle.refusals.specs.Stages.{ended, stage_of};
 ghost use Rattle.refusals.specs.Modest.{Modest};
 ghost use Rattle.refusals.specs.declared.Limits.{Limits};
-ghost use Rattle.blockfield.specs.BlockField.{kind_at, signed_at, index_from, shift_register};
 ghost use Rattle.decoding.specs.Decoded.{header_in, block_in, label_in, row_in, end_in, header_taken, block_taken, label_taken, row_taken, end_taken};
 ghost use Rattle.decoding.specs.Held.{Nothing, Sound, Takes, head_of, registers_after};
 
-use crate::field::Field;
-use kinds::KindTable;
-use refusals::{Limits, Refusal, Stage};
+use connectors::Reach;
+use kinds::Kind;
+use refusals::{Field, Limits, Refusal, Stage};
 
 // What is known of a circuit from the fields so far. Who has it judged owns it and lends it.
 #[derive(Drop)]
@@ -60,38 +60,30 @@ impl Known {
         self.registers = [false; 4];
     }
 
-    pub fn header(&mut self, limits: Limits, field: Field) -> Result<(), Refusal>
-        requires { Sound (head_of self.old) field.at × Modest limits }
-        ensures { Takes limits field.entry self.old (header_in limits field.entry.bytes.now field.entry.at field.entry.size) (header_taken field.entry.bytes.now field.entry.at) result self.new }
+    pub fn header(&mut self, limits: &Limits, field: &Field) -> Result<(), Refusal>
+        requires { Sound (head_of self.old) field.now.at × Modest limits.now }
+        ensures { Takes limits.now field.now self.old (header_in limits.now field.now.bytes.now field.now.at field.now.size) (header_taken field.now.bytes.now field.now.at) result self.new }
     {
-        fields::judge_header(limits, field.bytes, field.at, field.size, self.stage)?;
-        self.n = words::two_at(field.bytes, field.at + 4);
+        self.n = fields::judge_header(limits, field, self.stage)?;
         self.start = field.end();
         self.stage = Stage::AmongBlocks;
         Ok(())
     }
 
-    pub fn block(&mut self, limits: Limits, kinds: &KindTable, field: Field) -> Result<(), Refusal>
-        requires { (kinds.now ≡ kinds_table) × Sound (head_of self.old) field.at × (stage_of self.old.stage ≡ ended → ⊥) }
-        ensures { Takes limits field.entry self.old (block_in limits field.entry.bytes.now field.entry.at field.entry.size) (block_taken field.entry.bytes.now field.entry.at) result self.new }
+    pub fn block(&mut self, limits: &Limits, field: &Field) -> Result<(), Refusal>
+        requires { Sound (head_of self.old) field.now.at × (stage_of self.old.stage ≡ ended → ⊥) }
+        ensures { Takes limits.now field.now self.old (block_in limits.now field.now.bytes.now field.now.at field.now.size) (block_taken field.now.bytes.now field.now.at) result self.new }
     {
-        blockfield::judge_block(
-            limits,
-            kinds,
-            field.bytes,
-            field.at,
-            field.size,
-            self.stage,
-            self.n,
-            self.blocks,
-            &self.sorts,
-            &self.registers,
-        )?;
-        let kind = words::byte_at(field.bytes, field.at + 3);
-        mark_register(field.bytes, field.at, kind, &mut self.registers);
+        let reach = Reach {
+            limits: *limits,
+            n: self.n,
+            blocks: self.blocks,
+            sorts: &self.sorts,
+        };
+        let kind = blockfield::judge_block(&reach, field, self.stage, &self.registers)?;
+        mark_register(kind, field, &mut self.registers);
         let count = self.blocks;
-        let analog = kinds::is_analog(kinds, kind);
-        self.sorts[count] = analog;
+        self.sorts[count] = kind.is_analog();
         self.offsets[count] = field.at;
         self.blocks = count + 1;
         self.start = field.end();
@@ -99,9 +91,9 @@ impl Known {
         Ok(())
     }
 
-    pub fn label(&mut self, field: Field) -> Result<(), Refusal>
-        requires { Sound (head_of self.old) field.at }
-        ensures { (limits : Limits) → Takes limits field.entry self.old (label_in field.entry.size) (label_taken field.entry.bytes.now field.entry.at) result self.new }
+    pub fn label(&mut self, field: &Field) -> Result<(), Refusal>
+        requires { Sound (head_of self.old) field.now.at }
+        ensures { (limits : Limits) → Takes limits field.now self.old (label_in field.now.size) (label_taken field.now.bytes.now field.now.at) result self.new }
     {
         fields::judge_label(field.size, self.stage)?;
         self.start = field.end();
@@ -109,32 +101,26 @@ impl Known {
         Ok(())
     }
 
-    pub fn row(&mut self, limits: Limits, field: Field) -> Result<(), Refusal>
-        requires { Sound (head_of self.old) field.at × Modest limits × (stage_of self.old.stage ≡ ended → ⊥) }
-        ensures { Takes limits field.entry self.old (row_in limits field.entry.bytes.now field.entry.at field.entry.size) (row_taken field.entry.bytes.now field.entry.at) result self.new }
+    pub fn row(&mut self, limits: &Limits, field: &Field) -> Result<(), Refusal>
+        requires { Sound (head_of self.old) field.now.at × Modest limits.now × (stage_of self.old.stage ≡ ended → ⊥) }
+        ensures { Takes limits.now field.now self.old (row_in limits.now field.now.bytes.now field.now.at field.now.size) (row_taken field.now.bytes.now field.now.at) result self.new }
     {
-        fields::judge_row(
-            limits,
-            field.bytes,
-            field.at,
-            field.size,
-            self.stage,
-            self.n,
-            self.blocks,
-            &self.sorts,
-            &self.used,
-        )?;
-        let class = words::byte_at(field.bytes, field.at + 3);
-        let mark = fields::mark_of(limits, class, words::byte_at(field.bytes, field.at + 4));
+        let reach = Reach {
+            limits: *limits,
+            n: self.n,
+            blocks: self.blocks,
+            sorts: &self.sorts,
+        };
+        let mark = fields::judge_row(&reach, field, self.stage, &self.used)?;
         self.used[mark] = true;
         self.rows += 1;
         self.stage = Stage::AmongRows;
         Ok(())
     }
 
-    pub fn end(&mut self, field: Field) -> Result<(), Refusal>
-        requires { Sound (head_of self.old) field.at × (stage_of self.old.stage ≡ ended → ⊥) }
-        ensures { (limits : Limits) → Takes limits field.entry self.old (end_in field.entry.size) end_taken result self.new }
+    pub fn end(&mut self, field: &Field) -> Result<(), Refusal>
+        requires { Sound (head_of self.old) field.now.at × (stage_of self.old.stage ≡ ended → ⊥) }
+        ensures { (limits : Limits) → Takes limits field.now self.old (end_in field.now.size) end_taken result self.new }
     {
         fields::judge_end(field.size, self.stage, self.n, self.blocks)?;
         self.stage = Stage::Ended;
@@ -143,12 +129,12 @@ impl Known {
 }
 
 // Marks the index of a shift register.
-fn mark_register(bytes: &[u8], at: usize, kind: usize, registers: &mut [bool; 4])
-    requires { (kind ≡ kind_at bytes.now at) × (kind ≡ shift_register → (index_from at + 4 ≤ length bytes.now) × Between (pos 1) (pos 4) (signed_at bytes.now (index_from at))) }
-    ensures { registers.new ≡ registers_after bytes.now at registers.old }
+fn mark_register(kind: Kind, field: &Field, registers: &mut [bool; 4])
+    requires { (byte_of kind ≡ kind_at field.now.bytes.now field.now.at) × (kind_at field.now.bytes.now field.now.at ≡ shift_register → (index_from field.now.at + 4 ≤ length field.now.bytes.now) × Between (pos 1) (pos 4) (signed_at field.now.bytes.now (index_from field.now.at))) }
+    ensures { registers.new ≡ registers_after field.now.bytes.now field.now.at registers.old }
 {
-    if kind == blockfield::REGISTER {
-        let index = blockfield::index_mark(bytes, at);
+    if let Kind::ShiftRegister = kind {
+        let index = blockfield::index_mark(field.bytes, field.at);
         registers[index] = true;
     }
 }

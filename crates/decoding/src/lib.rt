@@ -1,8 +1,6 @@
 // What is known of a circuit from its fields so far, and what each field adds to it.
 #![tactic(auto)]
 
-mod field;
 mod known;
 
-pub use field::Field;
 pub use known::Known;

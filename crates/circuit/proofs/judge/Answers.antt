@@ -5,7 +5,7 @@ use Rattle.decoding.specs.Held.{seen}
 use Rattle.refusals.specs.Refusals.{number_of, number_in}
 use Rattle.refusals.specs.Stages.{ended, stage_of}
 use Rattle.refusals.specs.declared.Refused.{Refused}
-use Rattle.circuit.proofs.Walk.{begins, falls, goes_on, says-refused, says-surplus, says-ok, accepts-all}
+use Rattle.circuit.proofs.Walk.{begins, goes_on, says-refused, says-surplus, says-ok, accepts-all}
 use Rattle.circuit.proofs.judge.Goals as goal
 
 pub loop-limits-init : goal.loop-limits-init
@@ -23,12 +23,6 @@ loop-limits-preserved c =
     let i = c.loop-limits.invariant in
     let going : stage_of c.loop-limits.known.stage ≡ ended → ⊥ = search rules in
     record { same = c.take_next.ensures.same ∙ i.same; reached = goes_on _ _ _ _ i.reached _ going _ i.same c.take_next.ensures.answers (ap number_in c.in_default.is) }
-
-pub loop-limits-smaller : goal.loop-limits-smaller
-loop-limits-smaller c =
-    let i = c.loop-limits.invariant in
-    let going : stage_of c.loop-limits.known.stage ≡ ended → ⊥ = search rules in
-    falls _ _ _ _ i.reached _ going _ i.same c.take_next.ensures.answers (ap number_in c.in_default.is)
 
 pub returns-then-place-circuit : goal.returns-then-place-circuit
 returns-then-place-circuit c =

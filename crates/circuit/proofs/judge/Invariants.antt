@@ -1,7 +1,6 @@
 use Prim.Native.Nat.{◌-◌}
 use lib.ListN.{length}
 use Rattle.std.proofs.Common.{◌≡◌}
-use Rattle.kinds.specs.Table.{kinds_table}
 use Rattle.decoding.specs.Held.{seen}
 use Rattle.circuit.proofs.Walk.{Reached}
 use Rattle.circuit.proofs.judge.Given as goal

@@ -1,5 +1,5 @@
 -- `take_next` meets its contract: a field that is cut short is 1; else its tag tells which method takes it. Assumes nothing.
-use mathlib.Core.Path.{◌≡◌, sym, ap, ◌∙◌}
+use mathlib.Core.Path.{◌≡◌, ap, ◌∙◌}
 use Rattle.std.proofs.Common.{Err, rules}
 use native.Mathlib.Omega.{arith}
 use Rattle.refusals.specs.Refusals.{number_of, number_in}
@@ -18,42 +18,41 @@ returns-in-1-clause-answers c =
     let f = c.in_ok-field.field in
     let reads = c.in_ok-field.ensures.reads in
     there _ _ _ _ f reads _ _ _
-    (λ st k. field-header c.args.limits f.bytes.now f.at f.size (sized _ _ _ f reads) f.inside st _ (sym c.byte_at.ensures.0 ∙ c.in-1.is) (c.header.ensures st k))
+    (λ st k. field-header c.args.limits.now f.bytes.now f.at f.size (sized _ _ _ f reads) f.inside st _ (c.in-1.is) (c.header.ensures st k))
 
 pub returns-in-16-clause-answers : goal.returns-in-16-clause-answers
 returns-in-16-clause-answers c =
     let f = c.in_ok-field.field in
     let reads = c.in_ok-field.ensures.reads in
     there _ _ _ _ f reads _ _ _
-    (λ st k. field-block c.args.limits f.bytes.now f.at f.size (sized _ _ _ f reads) f.inside st _ (sym c.byte_at.ensures.0 ∙ c.in-16.is) (c.block.ensures st k))
+    (λ st k. field-block c.args.limits.now f.bytes.now f.at f.size (sized _ _ _ f reads) f.inside st _ (c.in-16.is) (c.block.ensures st k))
 
 pub returns-in-32-clause-answers : goal.returns-in-32-clause-answers
 returns-in-32-clause-answers c =
     let f = c.in_ok-field.field in
     let reads = c.in_ok-field.ensures.reads in
     there _ _ _ _ f reads _ _ _
-    (λ st k. field-label c.args.limits f.bytes.now f.at f.size (sized _ _ _ f reads) f.inside st _ (sym c.byte_at.ensures.0 ∙ c.in-32.is) (c.label.ensures c.args.limits st k))
+    (λ st k. field-label c.args.limits.now f.bytes.now f.at f.size (sized _ _ _ f reads) f.inside st _ (c.in-32.is) (c.label.ensures c.args.limits.now st k))
 
 pub returns-in-48-clause-answers : goal.returns-in-48-clause-answers
 returns-in-48-clause-answers c =
     let f = c.in_ok-field.field in
     let reads = c.in_ok-field.ensures.reads in
     there _ _ _ _ f reads _ _ _
-    (λ st k. field_row c.args.limits f.bytes.now f.at f.size (sized _ _ _ f reads) f.inside st _ (sym c.byte_at.ensures.0 ∙ c.in-48.is) (c.row.ensures st k))
+    (λ st k. field_row c.args.limits.now f.bytes.now f.at f.size (sized _ _ _ f reads) f.inside st _ (c.in-48.is) (c.row.ensures st k))
 
 pub returns-in-127-clause-answers : goal.returns-in-127-clause-answers
 returns-in-127-clause-answers c =
     let f = c.in_ok-field.field in
     let reads = c.in_ok-field.ensures.reads in
     there _ _ _ _ f reads _ _ _
-    (λ st k. field_end c.args.limits f.bytes.now f.at f.size (sized _ _ _ f reads) f.inside st _ (sym c.byte_at.ensures.0 ∙ c.in-127.is) (c.end.ensures c.args.limits st k))
+    (λ st k. field_end c.args.limits.now f.bytes.now f.at f.size (sized _ _ _ f reads) f.inside st _ (c.in-127.is) (c.end.ensures c.args.limits.now st k))
 
 pub returns-in_default-clause-answers : goal.returns-in_default-clause-answers
 returns-in_default-clause-answers c =
     let f = c.in_ok-field.field in
     let reads = c.in_ok-field.ensures.reads in
-    let t = c.byte_at.ensures.0 in
     there _ _ _ _ f reads _ _ _
     (λ st k. refuses
-    (field-other c.args.limits f.bytes.now f.at f.size (sized _ _ _ f reads) f.inside st (λ z. omega (arith, t, z)) (λ z. omega (arith, t, z)) (λ z. omega (arith, t, z)) (λ z. omega (arith, t, z)) (λ z. omega (arith, t, z)))
+    (field-other c.args.limits.now f.bytes.now f.at f.size (sized _ _ _ f reads) f.inside st (λ z. omega (arith, z)) (λ z. omega (arith, z)) (λ z. omega (arith, z)) (λ z. omega (arith, z)) (λ z. omega (arith, z)))
     (λ z. omega arith))
