@@ -15,8 +15,7 @@ use Rattle.words.specs.Signed.{word_of}
 use Rattle.rules.specs.Rules.{three}
 use Rattle.rules.specs.declared.BlockWords.{BlockWords}
 use Rattle.decoding.specs.Decoded.{block_at}
-use Rattle.lines.specs.Lines.{line_of, line_at}
-use Rattle.lines.specs.declared.Line.{Line}
+use Rattle.lines.specs.Lines.{Line, line_of, line_at}
 use Rattle.record.specs.Places.{Place, phase, mark, elapsed, input, flag, block, number, size_of, index_of, place_of, at, put, put_words, change}
 use Rattle.record.specs.Written.{put_all, nothing, lines_at, Stand}
 use Rattle.record.proofs.Located.{Spot, is-phase, is-done, is-mark, is-elapsed, is-input, is-analog, is-flag, is-analog_flag, is_block, spot, is-change, put-words-length, put-words-away, put-words-output, put-words-remembered, put-words-number}

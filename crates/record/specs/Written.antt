@@ -3,8 +3,7 @@ use Rattle.std.specs.Prelude.{ℕ, zero, suc, ◌+◌, ◌≤◌, ◌<◌, ◌�
 use Rattle.kinds.specs.Kinds.{Range, ◌to◌, in_range, sixteen}
 use Rattle.blockfield.specs.Marked.{Lies}
 use Rattle.decoding.specs.Decoded.{block_at}
-use Rattle.lines.specs.Lines.{line_of}
-use Rattle.lines.specs.declared.Line.{Line}
+use Rattle.lines.specs.Lines.{Line, line_of}
 use Rattle.record.specs.Places.{phase, done, mark, elapsed, input, analog, flag, analog_flag, block, index_of, at, word}
 use Rattle.record.specs.Sound.{block_range, every}
 

@@ -15,13 +15,12 @@ use Rattle.refusals.specs.declared.Limits.{Limits}
 use Rattle.refusals.proofs.Laws.{ours-modest}
 use Rattle.decoding.specs.Decoded.{Block, Circuit, block_at}
 use Rattle.decoding.specs.Held.{bare}
-use Rattle.decoding.specs.declared.Head.{Head}
+use Rattle.decoding.specs.Held.{Head}
 use Rattle.circuit.specs.Circuit.{verdict, refused, accepted}
 use Rattle.circuit.specs.Judged.{Accepts, Says}
 use Rattle.circuit.specs.declared.Outcome.{Outcome}
 use Rattle.kept.specs.Keeps.{Bytes}
-use Rattle.lines.specs.Lines.{line_of, lines_of}
-use Rattle.lines.specs.declared.Line.{Line}
+use Rattle.lines.specs.Lines.{Line, line_of, lines_of}
 use Rattle.record.specs.Places.{size_of}
 use Rattle.record.specs.Sound.{in_scan, sound}
 use Rattle.record.specs.Written.{lines_at, Stand}

@@ -6,8 +6,7 @@ use Rattle.blocks.specs.Fit.{Fit, Sixteen}
 use Rattle.connectors.specs.Connectors.{Connector, class_of}
 use Rattle.blockfield.specs.Marked.{Lies}
 use Rattle.decoding.specs.Decoded.{block_at}
-use Rattle.lines.specs.Lines.{line_of, line_at}
-use Rattle.lines.specs.declared.Line.{Line}
+use Rattle.lines.specs.Lines.{Line, line_of, line_at}
 use Rattle.record.specs.Places.{Place, size_of}
 use Rattle.record.specs.Said.{said}
 use Rattle.record.specs.declared.place.Place.{Place as Named}
