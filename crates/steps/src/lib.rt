@@ -8,8 +8,8 @@ ghost use Rattle.lines.specs.Lines.{input_said, line_of, line_said};
 ghost use Rattle.record.specs.Places.{put_words};
 ghost use Rattle.record.specs.Written.{lines_at};
 ghost use Rattle.record.specs.Said.{Counts};
-ghost use Rattle.steps.specs.Steps.{source_of, value_from, plain_bit, bit_from, bits_of, values_of, becomes as becomes_of, steps_from, to_go, turn_of, turned};
-ghost use Rattle.steps.specs.Wired.{source_said, Fine, Next, Runs};
+ghost use Rattle.steps.specs.Steps.{read_from, value_from, plain_bit, bit_from, bits_of, values_of, becomes as becomes_of, steps_from, to_go, turn_of, turned};
+ghost use Rattle.steps.specs.Wired.{source_said, named, plain_named, Fine, Next, Runs};
 
 use connectors::Class;
 use lines::{Input, Line};
@@ -23,19 +23,30 @@ pub struct Progress {
     pub left: usize,
 }
 
-// The place that a connector reads.
-fn source_of(input: Input) -> Option<Place>
-    ensures is { source_said result ≡ source_of (input_said input) }
+// The place that a class and a number name, where they name one.
+fn place_of(class: Class, number: usize) -> Option<Place>
+    requires { number < 65536 }
+    ensures is { source_said result ≡ named class number }
     ensures counts { IfSome result Counts }
 {
-    let number = input.number as usize;
-    match Class::try_from(input.class & 127) {
-        Ok(Class::Input) => Some(Place::Input(number)),
-        Ok(Class::Flag) => Some(Place::Flag(number)),
-        Ok(Class::AnalogInput) => Some(Place::Analog(number)),
-        Ok(Class::AnalogFlag) => Some(Place::AnalogFlag(number)),
-        Ok(Class::Block | Class::AnalogBlock) => Some(Place::Output(number)),
-        Ok(Class::Unused | Class::Low | Class::High) | Err(_) => None,
+    match class {
+        Class::Input => Some(Place::Input(number)),
+        Class::Flag => Some(Place::Flag(number)),
+        Class::AnalogInput => Some(Place::Analog(number)),
+        Class::AnalogFlag => Some(Place::AnalogFlag(number)),
+        Class::Block | Class::AnalogBlock => Some(Place::Output(number)),
+        Class::Unused | Class::Low | Class::High => None,
+    }
+}
+
+// The word that they name; 0 where they name none.
+fn word_of(rec: &[i32], class: Class, number: usize) -> i32
+    requires { number < 65536 }
+    ensures { result ≡ read_from rec.now (named class number) }
+{
+    match place_of(class, number) {
+        Some(place) => record::word(rec, place),
+        None => 0,
     }
 }
 
@@ -43,9 +54,22 @@ fn source_of(input: Input) -> Option<Place>
 pub fn value_from(rec: &[i32], input: Input) -> i32
     ensures { result ≡ value_from rec.now (input_said input) }
 {
-    match source_of(input) {
-        Some(place) => record::word(rec, place),
-        None => 0,
+    match Class::try_from(input.class & 127) {
+        Ok(class) => word_of(rec, class, input.number as usize),
+        Err(_) => 0,
+    }
+}
+
+// The bit that they name: unused as it is said to count, lo 0, hi 1.
+fn bit_of(rec: &[i32], unused: bool, class: Class, number: usize) -> bool
+    requires { number < 65536 }
+    ensures { result ≡ plain_named rec.now unused class number }
+{
+    match class {
+        Class::Unused => unused,
+        Class::Low => false,
+        Class::High => true,
+        _ => word_of(rec, class, number) != 0,
     }
 }
 
@@ -54,9 +78,8 @@ fn plain_bit(rec: &[i32], unused: bool, input: Input) -> bool
     ensures { result ≡ plain_bit rec.now unused (input_said input) }
 {
     match Class::try_from(input.class & 127) {
-        Ok(Class::Unused) => unused,
-        Ok(Class::High) => true,
-        _ => value_from(rec, input) != 0,
+        Ok(class) => bit_of(rec, unused, class, input.number as usize),
+        Err(_) => false,
     }
 }
 

@@ -1,10 +1,6 @@
 -- `steps::bits_of` meets its contract: the four are resolved one beside the other. Assumes nothing.
-use Rattle.blockfield.proofs.Laws.{lent}
 use Rattle.steps.specs.Steps.{bits_of}
 use Rattle.steps.proofs.bits_of.Goals as goal
-
-pub unused_counts-unused-requires : goal.unused_counts-unused-requires
-unused_counts-unused-requires c = lent c.args.kinds.now c.args.line.now.kind c.requires.0 c.requires.1.is_known
 
 pub returns : goal.returns
 unfolding bits_of

@@ -14,11 +14,11 @@ loop-i-init c =
 pub step_at-requires : goal.step_at-requires
 step_at-requires c =
     let plan = c.args.plan.now in
-    let ready = next-ready plan.bytes.now plan.n plan.offsets.now c.args.rec.now c.requires.1 c.args.d c.loop-i.i (omega arith) in
-    (c.requires.0, rw c.loop-i.invariant ready, omega arith)
+    let ready = next-ready plan.bytes.now plan.n plan.offsets.now c.args.rec.now c.requires.0 c.args.d c.loop-i.i (omega arith) in
+    (rw c.loop-i.invariant ready, omega arith)
 
 pub loop-i-preserved : goal.loop-i-preserved
 loop-i-preserved c =
     let plan = c.args.plan.now in
-    let is = next-is plan.bytes.now plan.n plan.offsets.now c.args.rec.now c.requires.1 c.args.d c.loop-i.i (omega arith) in
+    let is = next-is plan.bytes.now plan.n plan.offsets.now c.args.rec.now c.requires.0 c.args.d c.loop-i.i (omega arith) in
     rw (← is, ← c.loop-i.invariant) c.step_at.ensures
