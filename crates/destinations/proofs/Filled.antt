@@ -11,6 +11,9 @@ use Rattle.std.proofs.lemmas.List.{length-take-le}
 use lib.Seq.{get_or-set_same, get_or-set_other, ext_get_or, get_or-append-add, get_or-take, get_or-drop}
 use lib.IntN.{ℤ, pos}
 use borrow.Author.Tests.{ltb-true, ltb-false, eqb-true, eqb-false, lt-ltb, le-ltb}
+use Rattle.fields.specs.Codes.{class_code}
+use Rattle.fields.specs.declared.destination.Destination.{Destination}
+use Rattle.fields.specs.declared.destination.Destination.TheVariants.{Output, Flag, AnalogOutput, AnalogFlag}
 use Rattle.fields.specs.Fields.{class_at, number_in}
 use Rattle.decoding.specs.Decoded.{Row, row_at}
 use Rattle.decoding.specs.Held.{rows_at}
@@ -26,6 +29,13 @@ class-below class number (at-q e a b) = omega arith
 class-below class number (at-m e a b) = omega arith
 class-below class number (at-aq e a b) = omega arith
 class-below class number (at-am e a b) = omega arith
+
+-- and has a name
+pub aimed-class : (class number : ℕ) → Aimed class number → (d : Destination) × (class_code d ≡ class)
+aimed-class class number (at-q e a b) = (Output, sym e)
+aimed-class class number (at-m e a b) = (Flag, sym e)
+aimed-class class number (at-aq e a b) = (AnalogOutput, sym e)
+aimed-class class number (at-am e a b) = (AnalogFlag, sym e)
 
 pub number-from : (class number : ℕ) → Aimed class number → 1 ≤ number
 number-from class number (at-q e a b) = a

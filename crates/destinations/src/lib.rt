@@ -1,14 +1,14 @@
 // What each output and each flag gets from the rows.
 #![tactic(auto)]
 
-ghost use Rattle.std.specs.Prelude.{◌≡◌, cond, ◌+◌, ◌≤◌, ◌<◌, length, set, replicate, pos};
+ghost use Rattle.std.specs.Prelude.{◌≡◌, cond, ◌+◌, ◌≤◌, ◌<◌, leb, length, set, replicate, pos};
 ghost use Rattle.fields.specs.Codes.{class_code};
 ghost use Rattle.fields.specs.Fields.{class_at, number_in};
 ghost use Rattle.decoding.specs.Decoded.{row_at};
 ghost use Rattle.decoding.specs.Held.{rows_at};
 ghost use Rattle.record.specs.Places.{flag, put, change};
-ghost use Rattle.destinations.specs.Destinations.{carried, outputs_of, publish_word};
-ghost use Rattle.destinations.specs.Slots.{slot, filled, Aimed, Rows};
+ghost use Rattle.destinations.specs.Destinations.{M, carried, outputs_of, publish_word};
+ghost use Rattle.destinations.specs.Slots.{base, slot, filled, Aimed, Rows};
 
 use fields::Destination;
 use lines::Input;
@@ -20,18 +20,32 @@ const SLOTS: usize = 156;
 // Those of the outputs, Q and AQ.
 pub const OUTPUTS: usize = 28;
 
+// The slots before those of a class.
+#[tactic(auto, unfolding(crate::specs::Slots::base))]
+fn base_of(class: Destination) -> usize
+    ensures { result ≡ base (class_code class) }
+{
+    match class {
+        Destination::Output => 0,
+        Destination::AnalogOutput => 20,
+        Destination::Flag => 28,
+        Destination::AnalogFlag => 92,
+    }
+}
+
 // The slot of a destination.
 fn slot_of(class: Destination, number: usize) -> usize
     requires { Aimed (class_code class) number }
     ensures { (result ≡ slot (class_code class) number) × (result < 156) }
 {
-    let before = match class {
-        Destination::Output => 0,
-        Destination::AnalogOutput => 20,
-        Destination::Flag => 28,
-        Destination::AnalogFlag => 92,
-    };
-    before + (number - 1)
+    base_of(class) + (number - 1)
+}
+
+// Whether bits go to a class, and not numbers.
+fn is_digital(class: Destination) -> bool
+    ensures { result ≡ leb (class_code class) M }
+{
+    matches!(class, Destination::Output | Destination::Flag)
 }
 
 // The class of what the row at a place goes to.
@@ -54,9 +68,10 @@ fn carried_by(bytes: &[u8], at: usize, class: Destination, rec: &[i32]) -> i32
         class: bytes[at + 5],
         number: words::two_at(bytes, at + 6) as u16,
     };
-    match class {
-        Destination::Output | Destination::Flag => steps::bit_from(rec, false, from) as i32,
-        Destination::AnalogOutput | Destination::AnalogFlag => steps::value_from(rec, from),
+    if is_digital(class) {
+        steps::bit_from(rec, false, from) as i32
+    } else {
+        steps::value_from(rec, from)
     }
 }
 

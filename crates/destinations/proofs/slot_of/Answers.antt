@@ -1,9 +1,15 @@
--- `destinations::slot_of` meets its contract: the table is that of the definition. Assumes nothing.
+-- `destinations::slot_of` meets its contract: what stands before, and the number from 0. Assumes nothing.
+use native.Mathlib.Omega.{arith}
 use mathlib.Core.Path.{refl}
-use Rattle.destinations.specs.Slots.{base}
-use Rattle.destinations.proofs.Filled.{slot-below}
+use Rattle.fields.specs.Codes.{class_code}
+use Rattle.destinations.proofs.Filled.{number-from, slot-below}
 use Rattle.destinations.proofs.slot_of.Goals as goal
 
+pub overflow_sub-result : goal.overflow_sub-result
+overflow_sub-result c = number-from (class_code c.args.class) c.args.number c.requires
+
+pub overflow_add-result : goal.overflow_add-result
+overflow_add-result c = omega (arith, c.base_of.ensures, slot-below (class_code c.args.class) c.args.number c.requires)
+
 pub returns : goal.returns
-unfolding base
-returns c = (refl, slot-below c.args.class c.args.number c.requires)
+returns c = rw c.base_of.ensures (refl, slot-below (class_code c.args.class) c.args.number c.requires)
