@@ -14,4 +14,4 @@ returns c =
     let cleared = c.clear_before.ensures ∙ ap (λ (l : List ℤ). put_all l (index_of phase) (size_of 0) nothing) c.clear_blocks.ensures in
     c.begin.ensures
     ∙ ap (λ (l : List ℤ). put (put l mark (pos 1)) (flag 8) (pos 1)) cleared
-    ∙ warm-is plan.bytes.now plan.n plan.offsets.now plan.stand c.args.rec.now c.requires.1
+    ∙ warm-is plan.bytes.now plan.n plan.offsets.now plan.stand c.args.rec.now c.requires
