@@ -142,11 +142,7 @@ pub fn run(circuit: &[u8], rec: &mut [i32], c: u32) -> Result<(usize, usize), Re
     Ok((done.worked, done.left))
 }
 
-pub fn publish(
-    circuit: &[u8],
-    rec: &mut [i32],
-    outs: &mut [i32],
-) -> Result<(usize, usize), Refused>
+pub fn publish(circuit: &[u8], rec: &mut [i32], outs: &mut [i32]) -> Result<(usize, usize), Refused>
     ensures { (answer_of result ≡ answer_after circuit.now (publish_call (length outs.old)) rec.old)
         × (rec.new ≡ record_after circuit.now (publish_call (length outs.old)) rec.old)
         × (outs.new ≡ outputs_after circuit.now (publish_call (length outs.old)) rec.old outs.old) }

@@ -1,4 +1,4 @@
--- `scan::is_finished` meets its contract: no blocks to go is as many done as there are. Assumes nothing.
+-- `scan::judged::is_finished` meets its contract: no blocks to go is as many done as there are. Assumes nothing.
 use Prim.Native.Nat.{◌-◌}
 use native.Mathlib.Omega.{arith}
 use mathlib.Core.Path.{◌≡◌, refl, sym}
@@ -6,7 +6,7 @@ use mathlib.Core.Bool.{Bool, true, false}
 use lib.Dec.{leb, eqb}
 use borrow.Author.Tests.{leb-true, leb-false, eq-eqb, ne_eqb}
 use Prim.Native.Nat.{ℕ}
-use Rattle.scan.proofs.is_finished.Goals as goal
+use Rattle.scan.proofs.judged.is_finished.Goals as goal
 
 none_left : (n d : ℕ) → leb n d ≡ eqb (n - d) 0
 none_left n d = by (leb n d) refl

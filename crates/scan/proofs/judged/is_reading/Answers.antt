@@ -1,4 +1,4 @@
--- `scan::is_reading` meets its contract: the length, 24 bits, 8 values and e. Assumes nothing.
+-- `scan::judged::is_reading` meets its contract: the length, 24 bits, 8 values and e. Assumes nothing.
 use Prim.Native.Nat.{ℕ}
 use native.Mathlib.Nat.{zero-add}
 use mathlib.Core.Path.{◌≡◌, sym, ◌∙◌, ap}
@@ -13,7 +13,7 @@ use Rattle.record.specs.Places.{at}
 use Rattle.record.specs.Written.{all_fit}
 use Rattle.record.proofs.Runs.{and_same, every-same, run-all}
 use Rattle.calls.specs.Calls.{is_reading}
-use Rattle.scan.proofs.is_reading.Goals as goal
+use Rattle.scan.proofs.judged.is_reading.Goals as goal
 
 pub returns-then-inputs-ne-READING : goal.returns-then-inputs-ne-READING
 unfolding is_reading
