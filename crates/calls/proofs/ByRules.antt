@@ -7,8 +7,7 @@ use mathlib.Core.List.{List}
 use lib.ListN.{length}
 use lib.IntN.{ℤ}
 use Rattle.decoding.specs.Decoded.{Circuit}
-use Rattle.lines.specs.Lines.{lines_of, line_at}
-use Rattle.lines.specs.declared.Line.{Line}
+use Rattle.lines.specs.Lines.{Line, lines_of, line_at}
 use Rattle.record.specs.Places.{elapsed, block, size_of, index_of, word, words_of, change}
 use Rattle.record.proofs.Located.{change-length, change-at, change-word}
 use Rattle.steps.proofs.Reading.{bits-same, values_same}

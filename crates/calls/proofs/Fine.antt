@@ -18,9 +18,8 @@ use Rattle.circuit.specs.Circuit.{verdict, accepted}
 use Rattle.kept.specs.Keeps.{All, Bytes, Keeps, Allowed, RowKeeps}
 use Rattle.kept.proofs.Lists.{all_both}
 use Rattle.kept.proofs.Exactly.{accepted-exactly}
-use Rattle.lines.specs.Lines.{unused, nth, line_of, lines_of, no_line, line_at}
+use Rattle.lines.specs.Lines.{Line, unused, nth, line_of, lines_of, no_line, line_at}
 use Rattle.lines.specs.Ready.{Source, Ready}
-use Rattle.lines.specs.declared.Line.{Line}
 use Rattle.lines.proofs.Ready.{accepted-ready}
 use Rattle.steps.specs.Steps.{input_of}
 use Rattle.steps.specs.Wired.{Wired, Fine}

@@ -16,8 +16,7 @@ use Rattle.kinds.specs.Kinds as kinds
 use Rattle.decoding.specs.Decoded.{Row}
 use Rattle.kept.specs.Keeps.{All}
 use Rattle.kept.proofs.Lists.{all_map}
-use Rattle.lines.specs.Lines.{line_at}
-use Rattle.lines.specs.declared.Line.{Line}
+use Rattle.lines.specs.Lines.{Line, line_at}
 use Rattle.record.specs.Places.{Place, phase, done, mark, elapsed, input, analog, flag, analog_flag, block, size_of, index_of, place_of, at, word, change}
 use Rattle.record.specs.Sound.{block_range, range_of, every, is_zero}
 use Rattle.record.proofs.Located.{Real, place-real, change-length, change-at}

@@ -16,8 +16,7 @@ use Rattle.words.specs.Signed.{over}
 use Rattle.words.proofs.Bounds.{and-true, amount-between}
 use Rattle.refusals.specs.Answers.{accepted_with}
 use Rattle.decoding.specs.Decoded.{Circuit}
-use Rattle.lines.specs.Lines.{lines_of}
-use Rattle.lines.specs.declared.Line.{Line}
+use Rattle.lines.specs.Lines.{Line, lines_of}
 use Rattle.record.specs.Places.{done, index_of, place_of, at, word, put, change}
 use Rattle.record.specs.Sound.{in_scan, is_zero}
 use Rattle.record.proofs.Located.{Spot, is-phase, is-done, is-mark, is-elapsed, is-input, is-analog, is-flag, is-analog_flag, is_block, spot, change-at}

@@ -14,8 +14,7 @@ use Rattle.circuit.specs.Circuit.{Verdict, verdict, refused, accepted, answer_to
 use Rattle.circuit.proofs.Listed.{refusal-listed}
 use Rattle.circuit.proofs.Rising.{field-lowest}
 use Rattle.kept.proofs.Exactly.{accepted-exactly, kept-accepted}
-use Rattle.lines.specs.Lines.{lines_of}
-use Rattle.lines.specs.declared.Line.{Line}
+use Rattle.lines.specs.Lines.{Line, lines_of}
 use Rattle.record.specs.Places.{index_of, place_of, change}
 use Rattle.record.specs.Sound.{in_scan}
 use Rattle.record.proofs.Located.{change-at}

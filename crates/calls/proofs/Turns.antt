@@ -12,7 +12,7 @@ use lib.IntN.{ℤ, pos}
 use borrow.Author.Tests.{eqb-true, eqb-false}
 use Rattle.words.specs.Signed.{over}
 use Rattle.words.proofs.Bounds.{amount-between, count-is, count-between}
-use Rattle.lines.specs.declared.Line.{Line}
+use Rattle.lines.specs.Lines.{Line}
 use Rattle.record.specs.Places.{done, size_of, index_of, place_of, put}
 use Rattle.record.specs.Sound.{fits_at, in_scan}
 use Rattle.record.proofs.Held.{Sound, word_in}

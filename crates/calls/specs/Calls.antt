@@ -8,8 +8,7 @@ use Rattle.refusals.specs.Answers.{refused_at, accepted_with}
 use Rattle.refusals.specs.declared.Answer.{Answer}
 use Rattle.decoding.specs.Decoded.{Circuit, Row}
 use Rattle.circuit.specs.Circuit.{Verdict, refused, accepted, verdict}
-use Rattle.lines.specs.Lines.{lines_of, line_at}
-use Rattle.lines.specs.declared.Line.{Line}
+use Rattle.lines.specs.Lines.{Line, lines_of, line_at}
 use Rattle.record.specs.Places.{Place, phase, done, mark, elapsed, input, analog, flag, analog_flag, block, owner, size_of, at, change}
 use Rattle.record.specs.Sound.{every, in_scan, sound}
 use Rattle.steps.specs.Steps.{to_go, turn_of, turned}

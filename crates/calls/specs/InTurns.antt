@@ -6,8 +6,7 @@ use Rattle.refusals.specs.Answers.{accepted_with}
 use Rattle.decoding.specs.Decoded.{Circuit}
 use Rattle.circuit.specs.Circuit.{verdict, accepted}
 use Rattle.kept.specs.Keeps.{Bytes}
-use Rattle.lines.specs.Lines.{lines_of, line_at}
-use Rattle.lines.specs.declared.Line.{Line}
+use Rattle.lines.specs.Lines.{Line, lines_of, line_at}
 use Rattle.blocks.specs.Blocks.{worked_out}
 use Rattle.record.specs.Places.{done, flag, output, size_of, index_of, place_of, at, put, words_of, change}
 use Rattle.record.specs.Sound.{in_scan, sound}

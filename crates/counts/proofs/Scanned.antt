@@ -16,8 +16,7 @@ use Rattle.rules.specs.Rules.{bit, tally}
 use Rattle.rules.specs.declared.BlockWords.{BlockWords}
 use Rattle.decoding.specs.Decoded.{Circuit}
 use Rattle.blocks.specs.Blocks.{was_bit, was_number, worked_out}
-use Rattle.lines.specs.Lines.{lines_of, line_at}
-use Rattle.lines.specs.declared.Line.{Line}
+use Rattle.lines.specs.Lines.{Line, lines_of, line_at}
 use Rattle.record.specs.Places.{phase, done, block, number, remembered, size_of, index_of, place_of, word, put, words_of, change}
 use Rattle.record.specs.Sound.{in_scan}
 use Rattle.record.proofs.Located.{change-word}

@@ -7,8 +7,7 @@ use Rattle.rules.specs.Rules.{bit, digit, tally}
 use Rattle.decoding.specs.Decoded.{Circuit}
 use Rattle.circuit.specs.Circuit.{verdict, accepted}
 use Rattle.kept.specs.Keeps.{All, Bytes}
-use Rattle.lines.specs.Lines.{lines_of, line_at}
-use Rattle.lines.specs.declared.Line.{Line}
+use Rattle.lines.specs.Lines.{Line, lines_of, line_at}
 use Rattle.record.specs.Places.{number, word}
 use Rattle.record.specs.Sound.{in_scan}
 use Rattle.steps.specs.Steps.{bits_of}

@@ -13,7 +13,7 @@ use Rattle.refusals.specs.Modest.{Modest}
 use Rattle.refusals.proofs.Tests.{or-false}
 use Rattle.fields.specs.Fields.{limit_of}
 use Rattle.decoding.specs.Decoded.{Row, destination_used}
-use Rattle.decoding.specs.declared.Head.{Head}
+use Rattle.decoding.specs.Held.{Head}
 use Rattle.circuit.specs.Judged.{Accepts}
 use Rattle.kept.specs.Keeps.{Bytes, All, Each, EachAfter, Once, RowKeeps}
 use Rattle.kept.proofs.Lists.{all_map}

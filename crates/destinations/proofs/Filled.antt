@@ -1,40 +1,41 @@
 -- A slot holds what its destination gets; the first 28 slots are the outputs. Assumes nothing.
-use Prim.Native.Nat.{ℕ, zero, suc, ◌+◌, ◌-◌, ◌*◌, ◌/◌, ◌%◌, ◌^◌, ◌≤◌, ◌<◌}
+use Prim.Native.Nat.{ℕ, zero, suc, ◌+◌, ◌-◌, ◌*◌, ◌≤◌, ◌<◌}
 use native.Mathlib.Omega.{arith}
 use native.Mathlib.Nat.{zero-add, add-zero, sub-zero}
 use mathlib.Core.Path.{◌≡◌, refl, sym, ap, ◌∙◌}
 use mathlib.Core.Bool.{Bool, true, false, cond, ◌&&◌}
 use mathlib.Core.List.{List, [], ◌∷◌}
-use lib.Bits.{bit_and}
 use lib.Dec.{eqb, ltb}
-use lib.ListN.{length, set, replicate, length-set, length-replicate, get_or-replicate, get_or-append, take, drop, length-take, length-drop}
+use lib.ListN.{length, set, replicate, length-set, length-replicate, get_or-replicate, get_or-append, take, drop, length-drop}
+use Rattle.std.proofs.lemmas.List.{length-take-le}
 use lib.Seq.{get_or-set_same, get_or-set_other, ext_get_or, get_or-append-add, get_or-take, get_or-drop}
 use lib.IntN.{ℤ, pos}
 use borrow.Author.Tests.{ltb-true, ltb-false, eqb-true, eqb-false, lt-ltb, le-ltb}
-use Rattle.words.proofs.Masks.{low-seven-bits}
-use Rattle.connectors.proofs.Laws.{same_at}
+use Rattle.fields.specs.Codes.{class_code}
+use Rattle.fields.specs.declared.destination.Destination.{Destination}
+use Rattle.fields.specs.declared.destination.Destination.TheVariants.{Output, Flag, AnalogOutput, AnalogFlag}
 use Rattle.fields.specs.Fields.{class_at, number_in}
 use Rattle.decoding.specs.Decoded.{Row, row_at}
 use Rattle.decoding.specs.Held.{rows_at}
 use Rattle.kept.specs.Keeps.{All}
 use Rattle.record.specs.Places.{at}
-use Rattle.record.specs.Written.{put_all}
-use Rattle.record.proofs.Runs.{put-all-length, put-all-in}
 use Rattle.destinations.specs.Destinations.{Q, M, AQ, AM, carried, destined, list_from, outputs_of}
 use Rattle.destinations.specs.Slots.{base, slot, filled, Aimed, at-q, at-m, at-aq, at-am, AimedRow, Rows}
 
 -- ---- slots
-
--- seven bits for each class
-pub base-bits : (class : ℕ) → class < 5 → bit_and (24738463744 / 2 ^ (class * 7)) 127 ≡ base class
-unfolding base
-base-bits class h = low-seven-bits _ ∙ same_at 5 (λ k. 24738463744 / 2 ^ (k * 7) % 128) base refl class h
 
 pub class-below : (class number : ℕ) → Aimed class number → class < 5
 class-below class number (at-q e a b) = omega arith
 class-below class number (at-m e a b) = omega arith
 class-below class number (at-aq e a b) = omega arith
 class-below class number (at-am e a b) = omega arith
+
+-- and has a name
+pub aimed-class : (class number : ℕ) → Aimed class number → (d : Destination) × (class_code d ≡ class)
+aimed-class class number (at-q e a b) = (Output, sym e)
+aimed-class class number (at-m e a b) = (Flag, sym e)
+aimed-class class number (at-aq e a b) = (AnalogOutput, sym e)
+aimed-class class number (at-am e a b) = (AnalogFlag, sym e)
 
 pub number-from : (class number : ℕ) → Aimed class number → 1 ≤ number
 number-from class number (at-q e a b) = a
@@ -161,13 +162,23 @@ pub record Part (slots : List ℤ) (a m : ℕ) (from : List ℤ) : Type 0 where
   pub long : length from ≡ m
   pub words : (k : ℕ) → k < m → at from k ≡ at slots (a + k)
 
-pub part_of : (rows : List Row) (l slots : List ℤ) (a m : ℕ) → slots ≡ filled rows l → a + m ≤ 156 → Part (filled rows l) a m (take m (drop a slots))
-part_of rows l slots a m e b =
-    let f : length slots ≡ 156 = ap length e ∙ filled-length rows l in
-    record {
-      long = simp (length-take, length-drop) (omega arith);
-      words = λ k c. get_or-take m (drop a slots) k (pos 0) c ∙ get_or-drop a slots k (pos 0) ∙ ap (λ (x : List ℤ). at x (a + k)) e;
-    }
+module _ (rows : List Row) (l slots : List ℤ) (is : slots ≡ filled rows l) where
+  whole : length slots ≡ 156
+  whole = ap length is ∙ filled-length rows l
+
+  pub front_part : (m : ℕ) → m ≤ 156 → Part (filled rows l) 0 m (take m slots)
+  front_part m b =
+      record {
+        long = length-take-le m slots (omega (arith, whole));
+        words = λ k c. get_or-take m slots k (pos 0) c ∙ ap (λ (x : List ℤ). at x k) is ∙ ap (at (filled rows l)) (sym (zero-add k));
+      }
+
+  pub back_part : (a m : ℕ) → a + m ≡ 156 → Part (filled rows l) a m (drop a slots)
+  back_part a m e =
+      record {
+        long = length-drop a slots ∙ omega (arith, whole);
+        words = λ k c. get_or-drop a slots k (pos 0) ∙ ap (λ (x : List ℤ). at x (a + k)) is;
+      }
 
 -- ---- the outputs
 
@@ -203,15 +214,11 @@ module _ (rows : List Row) (l : List ℤ) (fine : All AimedRow rows) where
       let g : 20 + (i - 20) ≡ i = omega (arith, ltb-false i 20 e) in
       rw g at (last-8 (i - 20) (omega (arith, ltb-false i 20 e)))
 
-  -- the first 28 slots written to 28 words
-  pub outputs-are : (outs from : List ℤ) → length outs ≡ 28 → Part (filled rows l) 0 28 from → put_all outs 0 28 (at from) ≡ outputs_of rows l
+  -- the first 28 slots
+  pub outputs-are : (from : List ℤ) → Part (filled rows l) 0 28 from → from ≡ outputs_of rows l
   unfolding outputs_of
-  outputs-are outs from long p =
-      ext_get_or (pos 0) (put_all outs 0 28 (at from)) (outputs_of rows l) (put-all-length outs 0 28 (at from) ∙ long)
+  outputs-are from p =
+      ext_get_or (pos 0) from (outputs_of rows l) p.long
       (λ i k.
-      let b : i < 28 = rw (put-all-length outs 0 28 (at from), long) at k in
-      put-all-in outs 0 28 (at from) i (omega arith) (omega arith) (omega arith)
-      ∙ ap (at from) (sub-zero i)
-      ∙ p.words i b
-      ∙ ap (at (filled rows l)) (zero-add i)
-      ∙ sym (output-at i (ltb i 20) refl b))
+      let b : i < 28 = rw p.long at k in
+      p.words i b ∙ ap (at (filled rows l)) (zero-add i) ∙ sym (output-at i (ltb i 20) refl b))

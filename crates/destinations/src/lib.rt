@@ -1,16 +1,18 @@
 // What each output and each flag gets from the rows.
 #![tactic(auto)]
 
-ghost use Rattle.std.specs.Prelude.{◌≡◌, cond, ◌+◌, ◌≤◌, ◌<◌, length, set, replicate, pos};
+ghost use Rattle.std.specs.Prelude.{◌≡◌, cond, ◌+◌, ◌≤◌, ◌<◌, leb, length, set, replicate, pos};
+ghost use Rattle.fields.specs.Codes.{class_code};
 ghost use Rattle.fields.specs.Fields.{class_at, number_in};
 ghost use Rattle.decoding.specs.Decoded.{row_at};
 ghost use Rattle.decoding.specs.Held.{rows_at};
 ghost use Rattle.record.specs.Places.{flag, put, change};
-ghost use Rattle.destinations.specs.Destinations.{carried, outputs_of, publish_word};
-ghost use Rattle.destinations.specs.Slots.{slot, filled, Aimed, Rows};
+ghost use Rattle.destinations.specs.Destinations.{M, carried, outputs_of, publish_word};
+ghost use Rattle.destinations.specs.Slots.{base, slot, filled, Aimed, Rows};
 
-// M, the greatest class of a digital destination.
-const GREATEST_DIGITAL: usize = 2;
+use fields::Destination;
+use lines::Input;
+use record::Place;
 
 // Slots, one for each destination: Q, AQ, then the flags as they stand in a record, M and AM.
 const SLOTS: usize = 156;
@@ -18,51 +20,78 @@ const SLOTS: usize = 156;
 // Those of the outputs, Q and AQ.
 pub const OUTPUTS: usize = 28;
 
-// Seven bits for each destination class, 4 to 0: the slots before its own, 92, 20, 28, 0, 0.
-const BASES: usize = 0b1011100_0010100_0011100_0000000_0000000;
-
-// The slot of a destination.
-fn slot_of(class: usize, number: usize) -> usize
-    requires { Aimed class number }
-    ensures { (result ≡ slot class number) × (result < 156) }
+// The slots before those of a class.
+#[tactic(auto, unfolding(crate::specs::Slots::base))]
+fn base_of(class: Destination) -> usize
+    ensures { result ≡ base (class_code class) }
 {
-    ((BASES >> (class * 7)) & 127) + (number - 1)
+    match class {
+        Destination::Output => 0,
+        Destination::AnalogOutput => 20,
+        Destination::Flag => 28,
+        Destination::AnalogFlag => 92,
+    }
 }
 
-// What the row at a place carries.
-fn carried_by(bytes: &[u8], at: usize, rec: &[i32]) -> i32
-    requires { at + 8 ≤ length bytes.now }
+// The slot of a destination.
+fn slot_of(class: Destination, number: usize) -> usize
+    requires { Aimed (class_code class) number }
+    ensures { (result ≡ slot (class_code class) number) × (result < 156) }
+{
+    base_of(class) + (number - 1)
+}
+
+// Whether bits go to a class, and not numbers.
+fn is_digital(class: Destination) -> bool
+    ensures { result ≡ leb (class_code class) M }
+{
+    matches!(class, Destination::Output | Destination::Flag)
+}
+
+// The class of what the row at a place goes to.
+fn class_of(bytes: &[u8], at: usize) -> Destination
+    requires { (at + 8 ≤ length bytes.now) × Aimed (class_at bytes.now at) (number_in bytes.now at) }
+    ensures { class_code result ≡ class_at bytes.now at }
+{
+    let Ok(class) = Destination::try_from(bytes[at + 3]) else {
+        unreachable!()
+    };
+    class
+}
+
+// What the row at a place carries: a bit or a number, by the class of what it goes to.
+fn carried_by(bytes: &[u8], at: usize, class: Destination, rec: &[i32]) -> i32
+    requires { (at + 8 ≤ length bytes.now) × (class_code class ≡ class_at bytes.now at) }
     ensures { result ≡ carried rec.now (row_at bytes.now at) }
 {
-    let from = words::byte_at(bytes, at + 5);
-    let number = words::two_at(bytes, at + 6);
-    if words::byte_at(bytes, at + 3) <= GREATEST_DIGITAL {
-        return words::word_of(steps::bit_from(rec, false, from, number));
+    let from = Input {
+        class: bytes[at + 5],
+        number: words::two_at(bytes, at + 6) as u16,
+    };
+    if is_digital(class) {
+        steps::bit_from(rec, false, from) as i32
+    } else {
+        steps::value_from(rec, from)
     }
-    steps::value_from(rec, from, number)
 }
 
 // The slot of the row at a place becomes what the row carries.
-fn fill_row(bytes: &[u8], at: usize, rec: &[i32], slots: &mut [i32])
-    requires { (at + 8 ≤ length bytes.now) × Aimed (class_at bytes.now at) (number_in bytes.now at) × (length slots.old ≡ 156) }
+fn fill_row(bytes: &[u8], at: usize, rec: &[i32], slots: &mut [i32; SLOTS])
+    requires { (at + 8 ≤ length bytes.now) × Aimed (class_at bytes.now at) (number_in bytes.now at) }
     ensures { slots.new ≡ set slots.old (slot (class_at bytes.now at) (number_in bytes.now at)) (carried rec.now (row_at bytes.now at)) }
 {
-    let class = words::byte_at(bytes, at + 3);
-    let number = words::byte_at(bytes, at + 4);
-    let slot = slot_of(class, number);
-    let word = carried_by(bytes, at, rec);
-    slots[slot] = word;
+    let class = class_of(bytes, at);
+    let slot = slot_of(class, bytes[at + 4] as usize);
+    slots[slot] = carried_by(bytes, at, class, rec);
 }
 
 // The slots of all rows, the last row first, so that a destination gets what its first row carries.
-fn fill_rows(bytes: &[u8], start: usize, count: usize, rec: &[i32], slots: &mut [i32])
+fn fill_rows(bytes: &[u8], start: usize, count: usize, rec: &[i32], slots: &mut [i32; SLOTS])
     requires { Rows bytes.now start count × (slots.old ≡ replicate 156 (pos 0)) }
     ensures { slots.new ≡ filled (rows_at bytes.now start count) rec.now }
 {
-    let mut left = count;
-    while 0 < left {
-        left -= 1;
-        fill_row(bytes, start + 8 * left, rec, slots);
+    for row in (0..count).rev() {
+        fill_row(bytes, start + 8 * row, rec, slots);
     }
 }
 
@@ -71,7 +100,7 @@ fn clear_eighth(rec: &mut [i32], marked: bool)
     ensures { rec.new ≡ cond marked (put rec.old (flag 8) (pos 0)) rec.old }
 {
     if marked {
-        record::put_eighth(rec, 0);
+        record::put(rec, Place::Flag(8), 0);
     }
 }
 
@@ -82,11 +111,12 @@ pub fn publish_words(bytes: &[u8], start: usize, count: usize, rec: &mut [i32], 
     ensures { (rec.new ≡ change (publish_word (rows_at bytes.now start count) rec.old) rec.old)
         × (outs.new ≡ outputs_of (rows_at bytes.now start count) rec.old) }
 {
-    let marked = record::is_marked(&rec[..]);
-    let mut slots = [0i32; SLOTS];
-    fill_rows(bytes, start, count, &rec[..], &mut slots);
-    record::put_outputs(outs, &slots[0..OUTPUTS]);
-    record::put_flags(rec, &slots[OUTPUTS..SLOTS]);
+    let marked = record::is_marked(rec);
+    let mut slots = [0; SLOTS];
+    fill_rows(bytes, start, count, rec, &mut slots);
+    let (shown, flags) = slots.split_at(OUTPUTS);
+    outs.copy_from_slice(shown);
+    record::put_all(rec, Place::Flag(1), flags);
     clear_eighth(rec, marked);
-    record::clear_head(rec);
+    record::clear_before(rec, Place::Input(1));
 }

@@ -7,7 +7,7 @@ use mathlib.Core.Path.{◌≡◌, refl, sym, ap, ◌∙◌}
 use mathlib.Core.Bool.{Bool, true, false, cond}
 use mathlib.Core.List.{List}
 use lib.Dec.{eqb}
-use lib.ListN.{length, get_or, length-set}
+use lib.ListN.{length, get_or, replicate, length-set, length-replicate, get_or-replicate}
 use lib.Seq.{get_or-set_same, get_or-set_other}
 use lib.IntN.{ℤ, pos}
 use borrow.Author.Tests.{eqb-true, eqb-false}
@@ -15,8 +15,7 @@ use Rattle.words.specs.Signed.{word_of}
 use Rattle.rules.specs.Rules.{three}
 use Rattle.rules.specs.declared.BlockWords.{BlockWords}
 use Rattle.decoding.specs.Decoded.{block_at}
-use Rattle.lines.specs.Lines.{line_of, line_at}
-use Rattle.lines.specs.declared.Line.{Line}
+use Rattle.lines.specs.Lines.{Line, line_of, line_at}
 use Rattle.record.specs.Places.{Place, phase, mark, elapsed, input, flag, block, number, size_of, index_of, place_of, at, put, put_words, change}
 use Rattle.record.specs.Written.{put_all, nothing, lines_at, Stand}
 use Rattle.record.proofs.Located.{Spot, is-phase, is-done, is-mark, is-elapsed, is-input, is-analog, is-flag, is-analog_flag, is_block, spot, is-change, put-words-length, put-words-away, put-words-output, put-words-remembered, put-words-number}
@@ -75,9 +74,8 @@ module _ (f : Place → ℤ → ℤ) (l m : List ℤ) (same : length m ≡ lengt
 -- ---- cold start
 
 module _ (l : List ℤ) (long : 164 ≤ length l) where
-  all-zero : (i : ℕ) → i < length l → at (put_all l (index_of phase) (length l) nothing) i ≡ pos 0
-  unfolding index_of
-  all-zero i h = put-all-in l 0 (length l) nothing i (omega arith) (omega arith) h
+  all-zero : (i : ℕ) → i < length l → at (replicate (length l) (pos 0)) i ≡ pos 0
+  all-zero i h = get_or-replicate (length l) i (pos 0) (pos 0) h
 
   block-fresh : (i : ℕ) → 164 ≤ i → fresh (place_of i) ≡ pos 0
   block-fresh i h = by (spot i)
@@ -93,9 +91,9 @@ module _ (l : List ℤ) (long : 164 ≤ length l) where
       by (is-analog_flag a b e) = ap fresh e
       by (is_block a e) = ap fresh e
 
-  pub cold_is : put (put (put_all l (index_of phase) (length l) nothing) mark (pos 1)) (flag 8) (pos 1) ≡ change cold_word l
+  pub cold_is : put (put (replicate (length l) (pos 0)) mark (pos 1)) (flag 8) (pos 1) ≡ change cold_word l
   cold_is =
-      started cold_word l (put_all l (index_of phase) (length l) nothing) (put-all-length l (index_of phase) (length l) nothing) long
+      started cold_word l (replicate (length l) (pos 0)) (length-replicate (length l) (pos 0)) long
       (λ i h. all-zero i (omega arith))
       (λ i h. refl)
       (λ i a h. all-zero i h ∙ sym (block-fresh i a))

@@ -12,8 +12,7 @@ use Rattle.connectors.specs.Connectors.{digital_input, analog_input}
 use Rattle.blockfield.specs.BlockField.{four_of}
 use Rattle.blockfield.proofs.Laws.{allowed-four}
 use Rattle.decoding.specs.Decoded.{Block, Circuit, block_at}
-use Rattle.decoding.specs.Held.{bare}
-use Rattle.decoding.specs.declared.Head.{Head}
+use Rattle.decoding.specs.Held.{Head, bare}
 use Rattle.circuit.specs.Circuit.{verdict_at, accepted}
 use Rattle.circuit.specs.Judged.{Accepts}
 use Rattle.blocks.proofs.Prepares.{prepared-fit, prepared-most}

@@ -1,49 +1,13 @@
 -- Which call a number stands for, and what is known once it is made. Assumes nothing.
-use Prim.Native.Nat.{ℕ, ◌≤◌}
+use Prim.Native.Nat.{ℕ}
 use mathlib.Core.Path.{◌≡◌, refl}
 use mathlib.Core.Bool.{false}
-use mathlib.Core.List.{List, ◌++◌}
-use lib.ListN.{length, take, drop}
+use mathlib.Core.List.{List}
 use lib.IntN.{ℤ}
-use borrow.Author.Tests.{eq-eqb, ne_eqb}
 use Rattle.refusals.specs.declared.Answer.{Answer}
-use Rattle.circuit.specs.Circuit.{answer_of}
-use Rattle.calls.specs.Calls.{Call, cold_start, warm_start, latch, run, publish, answer_after, record_after, outputs_after}
-use Rattle.calls.specs.Play.{AnyCall, check, on, moment, reply_to, after}
-use Rattle.calls.proofs.Outputs.{closes, reply-kept, after_kept, reply-publish, after-publish}
-use Rattle.player.specs.Orders.{call_of}
-
--- ---- the call of a number
-
-module _ (which c : ℕ) (e : ℤ) (r : List ℤ) where
-  pub is-cold-start : which ≡ 0 → call_of which c e r ≡ on cold_start
-  unfolding call_of
-  is-cold-start is = rw (eq-eqb which 0 is)
-
-  module _ (not-0 : which ≡ 0 → ⊥) where
-    pub is-warm-start : which ≡ 1 → call_of which c e r ≡ on warm_start
-    unfolding call_of
-    is-warm-start is = rw (ne_eqb which 0 not-0, eq-eqb which 1 is)
-
-    module _ (not-1 : which ≡ 1 → ⊥) where
-      pub is-latch : which ≡ 2 → call_of which c e r ≡ on (latch r e)
-      unfolding call_of
-      is-latch is = rw (ne_eqb which 0 not-0, ne_eqb which 1 not-1, eq-eqb which 2 is)
-
-      module _ (not-2 : which ≡ 2 → ⊥) where
-        pub is-run : which ≡ 3 → call_of which c e r ≡ on (run c)
-        unfolding call_of
-        is-run is = rw (ne_eqb which 0 not-0, ne_eqb which 1 not-1, ne_eqb which 2 not-2, eq-eqb which 3 is)
-
-        module _ (not-3 : which ≡ 3 → ⊥) where
-          pub is-publish : which ≡ 4 → call_of which c e r ≡ on (publish c)
-          unfolding call_of
-          is-publish is = rw (ne_eqb which 0 not-0, ne_eqb which 1 not-1, ne_eqb which 2 not-2, ne_eqb which 3 not-3, eq-eqb which 4 is)
-
-          pub is-check : (which ≡ 4 → ⊥) → call_of which c e r ≡ check
-          unfolding call_of
-          is-check not-4 =
-              rw (ne_eqb which 0 not-0, ne_eqb which 1 not-1, ne_eqb which 2 not-2, ne_eqb which 3 not-3, ne_eqb which 4 not-4)
+use Rattle.calls.specs.Calls.{Call, latch, answer_after, record_after}
+use Rattle.calls.specs.Play.{AnyCall, on, moment, reply_to, after}
+use Rattle.calls.proofs.Outputs.{closes, reply-kept, after_kept}
 
 -- ---- a call that is made, from its own contract
 
@@ -61,21 +25,3 @@ module _ (s : List ℕ) {x : AnyCall} (l o : List ℤ) {a : Answer} where
   pub makes-latch : (r : List ℤ) {e t : ℤ} → t ≡ e → x ≡ on (latch r e) → {l' : List ℤ}
       → a ≡ answer_after s (latch r t) l → l' ≡ record_after s (latch r t) l → Makes s x l o a l' o
   makes-latch r same is answers leaves = makes (latch r _) refl is (rw same at answers) (rw same at leaves)
-
-  pub makes-check : x ≡ check → a ≡ answer_of s → Makes s x l o a l o
-  makes-check is answers = rw is (answers, refl)
-
-  pub makes-as : {y : AnyCall} {l' o' : List ℤ} → x ≡ y → Makes s y l o a l' o' → Makes s x l o a l' o'
-  makes-as is made = rw is made
-
--- publish
-module _ (s : List ℕ) (l o : List ℤ) (k : ℕ) {a : Answer} {l' o' : List ℤ} where
-  -- lent the first k output words
-  pub makes-first : a ≡ answer_after s (publish (length (take k o))) l → l' ≡ record_after s (publish (length (take k o))) l
-      → o' ≡ outputs_after s (publish (length (take k o))) l (take k o) → Makes s (on (publish k)) l o a l' (o' ++ drop k o)
-  makes-first answers leaves shows = (answers, rw (leaves, shows))
-
-  -- lent all of them
-  pub makes-all : length o ≤ k → a ≡ answer_after s (publish (length o)) l → l' ≡ record_after s (publish (length o)) l
-      → o' ≡ outputs_after s (publish (length o)) l o → Makes s (on (publish k)) l o a l' o'
-  makes-all all answers leaves shows = rw (reply-publish s k l o all, after-publish s k l o all) (answers, rw (leaves, shows))

@@ -7,7 +7,7 @@ use lib.ListN.{length}
 use lib.IntN.{ℤ}
 use Rattle.words.proofs.Bounds.{and-true}
 use Rattle.kinds.specs.Kinds.{In}
-use Rattle.lines.specs.declared.Line.{Line}
+use Rattle.lines.specs.Lines.{Line}
 use Rattle.record.specs.Places.{Place, size_of, index_of, word}
 use Rattle.record.specs.Sound.{range_of, every, in_scan, at_rest, fits_at, sound}
 use Rattle.record.proofs.Located.{Real, index_below, place-index}

@@ -1,19 +1,25 @@
 -- Words written one after the other, and tests of words one after the other. Assumes nothing.
-use Prim.Native.Nat.{ℕ, zero, suc, ◌+◌, ◌-◌, ◌*◌, ◌≤◌, ◌<◌}
+use Prim.Native.Nat.{ℕ, min, zero, suc, ◌+◌, ◌-◌, ◌*◌, ◌≤◌, ◌<◌}
 use native.Mathlib.Omega.{arith}
 use native.Mathlib.Nat.{eq-or-lt_of_le, add-zero, add-suc}
 use mathlib.Core.Path.{◌≡◌, refl, sym, ap, ◌∙◌}
 use mathlib.Core.Logic.{⊎_elim}
 use mathlib.Core.Bool.{Bool, true, false, ◌&&◌}
-use mathlib.Core.List.{List}
-use lib.ListN.{length, set, length-set}
+use mathlib.Core.List.{List, [], ◌∷◌, ◌++◌}
+use lib.ListN.{length, set, take, drop, replicate, length-set}
 use lib.Seq.{get_or-set_same, get_or-set_other}
 use lib.IntN.{ℤ, pos}
 use Rattle.words.proofs.Bounds.{and-true}
 use Rattle.refusals.proofs.Tests.{and-false}
+use Rattle.std.specs.List.{between}
+use Rattle.std.proofs.lemmas.Bool.{cases_lt}
+use Rattle.std.proofs.lemmas.List.{ext_get_or, take_more, length-append, length-take, length-take-le, length-drop, get_or-append_right, get_or_append_left, get_or-take, length-replicate, get_or-drop, get_or-replicate}
+use borrow.Rule.Slice.PartMut.{put_mid}
+use native.Mathlib.Numerals.{add-one}
+use Rattle.kinds.specs.Kinds.{Range, in_range}
 use Rattle.record.specs.Places.{at}
 use Rattle.record.specs.Sound.{every}
-use Rattle.record.specs.Written.{put_all}
+use Rattle.record.specs.Written.{put_all, nothing, run_fits, all_fit}
 
 -- ---- writing
 
@@ -42,6 +48,75 @@ put-all-in l a (suc m) g i h k s =
         let b : a + m < length l = omega arith in
         rw (q, e) (get_or-set_same (put_all l a m g) (a + m) (g m) (pos 0) (rw (put-all-length l a m g) b))
 
+module _ (l : List ℤ) where
+  -- a store of a part, cut at the end
+  pub part_stored : (xs ys : List ℤ) (a s e : ℕ) → s ≡ min a (length l) → e ≡ min (s + length xs) (length l) → ys ≡ take (e - s) xs → put_mid s (e - s) l ys ≡ put_all l a (length xs) (at xs)
+  part_stored xs ys a s e p q r =
+      let m = length xs in
+      let fits : e - s ≤ m = omega arith in
+      let long : length ys ≡ e - s = rw r (length-take-le (e - s) xs fits) in
+      let whole : length (put_mid s (e - s) l ys) ≡ length l = simp (length-append, length-take, length-drop) (omega arith) in
+      ext_get_or (pos 0) _ _ (whole ∙ sym (put-all-length l a m (at xs)))
+      (λ i h. by_part i (rw whole at h))
+    where
+      before : (i : ℕ) → i < length l → i < s → at (put_mid s (e - s) l ys) i ≡ at l i
+      before i h b =
+          let long : length (take s l) ≡ s = simp length-take (omega arith) in
+          get_or_append_left (take s l) _ (pos 0) i (omega arith) ∙ get_or-take s l i (pos 0) b
+
+      within : (i : ℕ) → i < length l → s ≤ i → i < e → at (put_mid s (e - s) l ys) i ≡ at xs (i - s)
+      within i h b g =
+          let long : length (take s l) ≡ s = simp length-take (omega arith) in
+          let part : length ys ≡ e - s = rw r (length-take-le (e - s) xs (omega arith)) in
+          get_or-append_right (take s l) _ s i (pos 0) long b
+          ∙ get_or_append_left ys _ (pos 0) (i - s) (omega arith)
+          ∙ rw r (get_or-take (e - s) xs (i - s) (pos 0) (omega arith))
+
+      behind : (i : ℕ) → i < length l → s ≤ i → e ≤ i → at (put_mid s (e - s) l ys) i ≡ at l i
+      behind i h b g =
+          let long : length (take s l) ≡ s = simp length-take (omega arith) in
+          let part : length ys ≡ e - s = rw r (length-take-le (e - s) xs (omega arith)) in
+          let there : s + (e - s + (i - s - (e - s))) ≡ i = omega arith in
+          get_or-append_right (take s l) _ s i (pos 0) long b
+          ∙ get_or-append_right ys _ (e - s) (i - s) (pos 0) part (omega arith)
+          ∙ get_or-drop (e - s) (drop s l) (i - s - (e - s)) (pos 0)
+          ∙ get_or-drop s l (e - s + (i - s - (e - s))) (pos 0)
+          ∙ ap (at l) there
+
+      by_part : (i : ℕ) → i < length l → at (put_mid s (e - s) l ys) i ≡ at (put_all l a (length xs) (at xs)) i
+      by_part i h =
+          ⊎_elim (λ (b : i < s). before i h b ∙ sym (put-all-away l a (length xs) (at xs) i (λ k f z. omega arith)))
+          (λ (b : s ≤ i).
+          ⊎_elim
+          (λ (g : i < e).
+          let here : s ≡ a = omega arith in
+          within i h b g ∙ ap (λ j. at xs (i - j)) here ∙ sym (put-all-in l a (length xs) (at xs) i (omega arith) (omega arith) h))
+          (λ (g : e ≤ i). behind i h b g ∙ sym (put-all-away l a (length xs) (at xs) i (λ k f z. omega arith)))
+          (cases_lt i e))
+          (cases_lt i s)
+
+  -- the front zeroed, cut at the end
+  pub front_cleared : (ys : List ℤ) (m e : ℕ) → e ≡ min m (length l) → ys ≡ replicate e (pos 0) → ys ++ drop e l ≡ put_all l 0 m nothing
+  front_cleared ys m e p q =
+      let long : length ys ≡ e = rw q (length-replicate e (pos 0)) in
+      let whole : length (ys ++ drop e l) ≡ length l = simp (length-append, length-drop) (omega arith) in
+      ext_get_or (pos 0) _ _ (whole ∙ sym (put-all-length l 0 m nothing)) (λ i h. by_part i (rw whole at h))
+    where
+      by_part : (i : ℕ) → i < length l → at (ys ++ drop e l) i ≡ at (put_all l 0 m nothing) i
+      by_part i h =
+          ⊎_elim
+          (λ (g : i < e).
+          get_or_append_left ys _ (pos 0) i (rw q (omega (arith, length-replicate e (pos 0))))
+          ∙ rw q (get_or-replicate e i (pos 0) (pos 0) g)
+          ∙ sym (put-all-in l 0 m nothing i (omega arith) (omega arith) h))
+          (λ (g : e ≤ i).
+          let there : e + (i - e) ≡ i = omega arith in
+          get_or-append_right ys _ e i (pos 0) (rw q (length-replicate e (pos 0))) g
+          ∙ get_or-drop e l (i - e) (pos 0)
+          ∙ ap (at l) there
+          ∙ sym (put-all-away l 0 m nothing i (λ k f z. omega arith)))
+          (cases_lt i e)
+
 -- ---- testing
 
 -- a test of each number below n, and the fact of each
@@ -67,13 +142,32 @@ one-fails (suc n) f i h e =
     (λ (g : i < n). rw (one-fails n f i g e))
     (eq-or-lt_of_le {n = i} {m = n} (omega arith))
 
--- two tests that are each another
-pub and_same : {a b c d : Bool} → a ≡ b → c ≡ d → a && c ≡ b && d
-and_same e f = rw (e, f)
-
 and_assoc : (a b c : Bool) → (a && b) && c ≡ a && (b && c)
 and_assoc true b c = refl
 and_assoc false b c = refl
+
+-- a part of some words
+pub run-all : (r : Range) (l : List ℤ) (a m : ℕ) → a + m ≤ length l → run_fits r l a m ≡ all_fit r (take m (drop a l))
+unfolding every
+run-all r l a zero h = refl
+run-all r l a (suc m) h =
+    let e : take (m + 1) (drop a l) ≡ take m (drop a l) ++ at l (a + m) ∷ [] = take_more (drop a l) m (pos 0) (omega (arith, length-drop a l)) ∙ ap (λ z. take m (drop a l) ++ z ∷ []) (get_or-drop a l m (pos 0)) in
+    rw (run-all r l a m (omega arith), ← add-one m, e) (sym (all_last r (take m (drop a l)) (at l (a + m))))
+  where
+    all_last : (r : Range) (l : List ℤ) (z : ℤ) → all_fit r (l ++ z ∷ []) ≡ all_fit r l && in_range r z
+    all_last r [] z = and_true (in_range r z)
+      where
+        and_true : (b : Bool) → b && true ≡ true && b
+        and_true true = refl
+        and_true false = refl
+    all_last r (y ∷ l) z = rw (all_last r l z) (sym (and_assoc (in_range r y) (all_fit r l) (in_range r z)))
+
+pub part_fits : (r : Range) (l : List ℤ) (a e : ℕ) → a ≤ e → e ≤ length l → all_fit r (between a e l) ≡ run_fits r l a (e - a)
+part_fits r l a e h g = sym (run-all r l a (e - a) (omega arith))
+
+-- two tests that are each another
+pub and_same : {a b c d : Bool} → a ≡ b → c ≡ d → a && c ≡ b && d
+and_same e f = rw (e, f)
 
 pub every-add : (a b : ℕ) (f : ℕ → Bool) → every (a + b) f ≡ every a f && every b (λ k. f (a + k))
 unfolding every

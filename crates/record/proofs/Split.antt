@@ -12,8 +12,7 @@ use lib.IntN.{ℤ, pos}
 use Rattle.kinds.specs.Kinds.{Range, ◌to◌, in_range, sixteen}
 use Rattle.kinds.proofs.Rows.{any-default}
 use Rattle.decoding.specs.Decoded.{block_at}
-use Rattle.lines.specs.Lines.{line_of, no_line, line_at}
-use Rattle.lines.specs.declared.Line.{Line}
+use Rattle.lines.specs.Lines.{Line, line_of, no_line, line_at}
 use Rattle.record.specs.Places.{Place, input, analog, flag, analog_flag, block, size_of, index_of, place_of, at, word}
 use Rattle.record.specs.Sound.{block_range, range_of, every, in_scan, at_rest, fits_at, sound}
 use Rattle.record.specs.Written.{run_fits, head_fits, fixed_fit, block_fits, blocks_fit, lines_at, Stand}

@@ -1,3 +1,4 @@
 pub mod Places
 pub mod Sound
 pub mod Written
+pub mod Said

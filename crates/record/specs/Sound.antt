@@ -2,8 +2,7 @@
 use Rattle.std.specs.Prelude.{ℕ, zero, suc, Bool, true, ◌&&◌, ◌||◌, List, length, ℤ, pos}
 use Rattle.words.specs.Signed.{bit_of}
 use Rattle.kinds.specs.Kinds.{Range, ◌to◌, in_range, sixteen, kind_of, output_range, remembered_range, number_range}
-use Rattle.lines.specs.Lines.{line_at}
-use Rattle.lines.specs.declared.Line.{Line}
+use Rattle.lines.specs.Lines.{Line, line_at}
 use Rattle.record.specs.Places.{Place, phase, done, mark, elapsed, input, analog, flag, analog_flag, block, size_of, place_of, at, word}
 
 -- ---- the range of each word

@@ -1,10 +1,9 @@
 -- How the code reads and writes a record: run by run. Not part of what a reader has to believe.
-use Rattle.std.specs.Prelude.{ℕ, zero, suc, ◌+◌, ◌≤◌, ◌<◌, ◌≡◌, Bool, ◌&&◌, List, map, length, get_or, set, take, ℤ, pos}
+use Rattle.std.specs.Prelude.{ℕ, zero, suc, ◌+◌, ◌≤◌, ◌<◌, ◌≡◌, Bool, true, ◌&&◌, List, [], ◌∷◌, map, length, get_or, set, take, ℤ, pos}
 use Rattle.kinds.specs.Kinds.{Range, ◌to◌, in_range, sixteen}
 use Rattle.blockfield.specs.Marked.{Lies}
 use Rattle.decoding.specs.Decoded.{block_at}
-use Rattle.lines.specs.Lines.{line_of}
-use Rattle.lines.specs.declared.Line.{Line}
+use Rattle.lines.specs.Lines.{Line, line_of}
 use Rattle.record.specs.Places.{phase, done, mark, elapsed, input, analog, flag, analog_flag, block, index_of, at, word}
 use Rattle.record.specs.Sound.{block_range, every}
 
@@ -19,6 +18,11 @@ nothing k = pos 0
 -- each of m words from an index on is in a range
 abbrev pub run_fits : Range → List ℤ → ℕ → ℕ → Bool
 run_fits r l a m = every m (λ k. in_range r (at l (a + k)))
+
+-- each of some words is
+abbrev pub all_fit : Range → List ℤ → Bool
+all_fit r [] = true
+all_fit r (z ∷ l) = in_range r z && all_fit r l
 
 -- so are phase, blocks done, mark and e, for n blocks
 unfoldable pub head_fits : ℕ → List ℤ → Bool

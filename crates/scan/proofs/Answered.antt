@@ -13,10 +13,9 @@ use Rattle.refusals.specs.Limited.{ours}
 use Rattle.refusals.specs.Answers.{accepted_with}
 use Rattle.decoding.specs.Held.{rows_at}
 use Rattle.decoding.specs.Decoded.{Row}
-use Rattle.decoding.specs.declared.Head.{Head}
+use Rattle.decoding.specs.Held.{Head}
 use Rattle.circuit.specs.Judged.{Accepts}
-use Rattle.lines.specs.Lines.{lines_of}
-use Rattle.lines.specs.declared.Line.{Line}
+use Rattle.lines.specs.Lines.{Line, lines_of}
 use Rattle.record.specs.Places.{size_of, change}
 use Rattle.record.specs.Sound.{in_scan, sound}
 use Rattle.record.specs.Written.{lines_at}

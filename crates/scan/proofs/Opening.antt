@@ -10,18 +10,20 @@ use lib.IntN.{ℤ}
 use borrow.Author.Tests.{eqb-true}
 use Rattle.refusals.specs.Limited.{ours}
 use Rattle.refusals.specs.Faults.{◌when◌, lowest}
-use Rattle.refusals.specs.Answers.{refused_at}
-use Rattle.refusals.specs.declared.Limits.{Limits}
+use Rattle.refusals.specs.declared.Refusal.{Refusal}
+use Rattle.refusals.specs.declared.Refused.{Refused}
+use Rattle.refusals.specs.Refusals.{number_of}
+use Rattle.std.specs.Prelude.{Result, Ok, Err}
+use Rattle.refusals.specs.Answers.{refused_at, answer_of}
 use Rattle.refusals.proofs.Laws.{ours-modest}
+use Rattle.refusals.proofs.Numbers.{number-above}
 use Rattle.decoding.specs.Decoded.{Block, Circuit, block_at}
-use Rattle.decoding.specs.Held.{bare}
-use Rattle.decoding.specs.declared.Head.{Head}
+use Rattle.decoding.specs.Held.{Head, head_of, bare}
+use Rattle.decoding.specs.declared.known.Known.{Known}
 use Rattle.circuit.specs.Circuit.{verdict, refused, accepted}
-use Rattle.circuit.specs.Judged.{Accepts, Says}
-use Rattle.circuit.specs.declared.Outcome.{Outcome}
+use Rattle.circuit.specs.Judged.{Accepts}
 use Rattle.kept.specs.Keeps.{Bytes}
-use Rattle.lines.specs.Lines.{line_of, lines_of}
-use Rattle.lines.specs.declared.Line.{Line}
+use Rattle.lines.specs.Lines.{Line, line_of, lines_of}
 use Rattle.record.specs.Places.{size_of}
 use Rattle.record.specs.Sound.{in_scan, sound}
 use Rattle.record.specs.Written.{lines_at, Stand}
@@ -33,10 +35,6 @@ use Rattle.calls.specs.Calls.{Call, cold_start, warm_start, latch, run, publish,
 use Rattle.calls.proofs.Accepts.{answer-accepted, record-accepted, outputs-accepted, answer-refused, record-refused, outputs-refused, answer-after, record-after, outputs-after}
 use Rattle.calls.proofs.Fine.{accepted-fine}
 use Rattle.scan.specs.Opened.{asks_sound, Refuses, Opened, Opens}
-
--- what `judge` says at ours
-pub at-ours : {limits : Limits} {s : List ℕ} {r : Outcome} {offsets : List ℕ} → limits ≡ ours → Says limits s r offsets → Says ours s r offsets
-at-ours {s = s} {r = r} {offsets = offsets} e says = subst (λ (limits : Limits). Says limits s r offsets) e says
 
 -- ---- the circuit is refused
 
@@ -108,6 +106,10 @@ module _ (p : Plan) (l : List ℤ) where
     unfolding refusal faults
     publish-number k g h i = rw (e, f, g, h, i)
 
+-- every refusal has a number
+some_number : (refusal : Refusal) → number_of refusal ≡ 0 → ⊥
+some_number refusal e = omega (arith, number-above refusal)
+
 -- ---- what stands in the bytes of an accepted circuit
 
 map-twice : {A B C : Type 0} (f : A → B) (g : B → C) (l : List A) → map g (map f l) ≡ map (λ x. g (f x)) l
@@ -163,25 +165,42 @@ module _ (s : List ℕ) (head : Head) (offsets : List ℕ) (a : Accepts ours s h
         shown = accepted-rows ours s head offsets ours-modest small a;
       }
 
-  -- the record's number, whatever it is
-  pub record-judged : (l : List ℤ) → Bytes s → (k : ℕ)
-      → k ≡ lowest (20 when not (eqb (length l) (size_of head.n)) ∷ 21 when not (sound (lines_at s head.n offsets) l) ∷ [])
-      → Opens s l (record { number = k; place = 0; head = head }) offsets
-  record-judged l small k e =
-      record {
-        refuses = λ ne x asks. record-told l x asks k ne e;
-        accepts = λ z. by (eqb (length l) (size_of head.n)) (sound (lines_at s head.n offsets) l) refl refl (sym z ∙ e);
-      }
+  -- the record is refused
+  pub refused_so : (l : List ℤ) (refusal : Refusal)
+      → number_of refusal ≡ lowest (20 when not (eqb (length l) (size_of head.n)) ∷ 21 when not (sound (lines_at s head.n offsets) l) ∷ [])
+      → (x : Call) → asks_sound x ≡ true → Refuses s x l (number_of refusal) 0
+  refused_so l refusal e x asks = record-told l x asks (number_of refusal) (some_number refusal) e
+
+  -- or not
+  pub accepted_so : (l : List ℤ) → Bytes s
+      → 0 ≡ lowest (20 when not (eqb (length l) (size_of head.n)) ∷ 21 when not (sound (lines_at s head.n offsets) l) ∷ []) → Opened s l head offsets
+  accepted_so l small e = by (eqb (length l) (size_of head.n)) (sound (lines_at s head.n offsets) l) refl refl e
     where
       by : (t u : Bool) → eqb (length l) (size_of head.n) ≡ t → sound (lines_at s head.n offsets) l ≡ u → 0 ≡ lowest (20 when not (eqb (length l) (size_of head.n)) ∷ 21 when not (sound (lines_at s head.n offsets) l) ∷ []) → Opened s l head offsets
       by true true f g h = record-right l small (eqb-true (length l) (size_of head.n) f) g
       by true false f g h = let z : ◌≡◌ {A = ℕ} 0 21 = h ∙ rw (f, g) in absurd (let y : ⊥ = omega arith in y)
       by false u f g h = let z : ◌≡◌ {A = ℕ} 0 20 = h ∙ rw f in absurd (let y : ⊥ = omega arith in y)
 
--- the circuit's number
-pub circuit-judged : (s : List ℕ) (l : List ℤ) (r : Outcome) (offsets : List ℕ) → Says ours s r offsets → (r.number ≡ 0 → ⊥) → Opens s l r offsets
-circuit-judged s l r offsets says ne =
-    record {
-      refuses = λ no x asks. circuit-refused s r.number r.place (says.refuses ne) x l;
-      accepts = λ e. absurd (ne e);
-    }
+-- ---- as a result
+
+module _ (s : List ℕ) (l : List ℤ) (known : Known) where
+  pub opens-not : (e : Refused) → ((x : Call) → asks_sound x ≡ true → Refuses s x l (number_of e.refusal) e.place) → Opens s l (Err e) known
+  opens-not e h =
+      record {
+        refuses = λ f p x asks. let q : e ≡ f = cc in subst (λ (g : Refused). Refuses s x l (number_of g.refusal) g.place) q (h x asks);
+        accepts = λ p. absurd (let z : ⊥ = cc in z);
+      }
+
+  pub opens : Opened s l (head_of known) known.offsets → Opens s l (Ok tt) known
+  opens o = record { refuses = λ e p x asks. absurd (let z : ⊥ = cc in z); accepts = λ p. o }
+
+-- ---- what a refusal leaves
+
+module _ (s : List ℕ) (x : Call) (l : List ℤ) where
+  pub refused_so_far : {r : Result (ℕ × ℕ) Refused} (e : Refused) → r ≡ Err e → Refuses s x l (number_of e.refusal) e.place
+      → (answer_of r ≡ answer_after s x l) × (l ≡ record_after s x l) × ((o : List ℤ) → o ≡ outputs_after s x l o)
+  refused_so_far e is r = rw is (sym r.answer, sym r.words, λ o. sym (r.outs o))
+
+  pub refused_here : {e : Refused} (refusal : Refusal) → e ≡ record { refusal = refusal; place = 0 } → Refuses s x l (number_of refusal) 0
+      → (answer_of (Err e) ≡ answer_after s x l) × (l ≡ record_after s x l) × ((o : List ℤ) → o ≡ outputs_after s x l o)
+  refused_here refusal is r = rw is (sym r.answer, sym r.words, λ o. sym (r.outs o))

@@ -1,11 +1,12 @@
 -- What the calls hand to each other. Not part of what a reader has to believe.
-use Rattle.std.specs.Prelude.{ℕ, ◌≡◌, Bool, true, false, List, ℤ}
+use Rattle.std.specs.Prelude.{ℕ, ◌≡◌, Bool, true, false, List, ℤ, Result, Ok, Err}
+use Rattle.refusals.specs.declared.Refused.{Refused}
+use Rattle.refusals.specs.Refusals.{number_of}
 use Rattle.refusals.specs.Answers.{refused_at}
 use Rattle.decoding.specs.Decoded.{Circuit}
-use Rattle.decoding.specs.Held.{rows_at}
-use Rattle.decoding.specs.declared.Head.{Head}
+use Rattle.decoding.specs.Held.{Head, head_of, rows_at}
+use Rattle.decoding.specs.declared.known.Known.{Known}
 use Rattle.circuit.specs.Circuit.{verdict, accepted}
-use Rattle.circuit.specs.declared.Outcome.{Outcome}
 use Rattle.lines.specs.Lines.{lines_of}
 use Rattle.record.specs.Written.{lines_at}
 use Rattle.steps.specs.Wired.{Runs}
@@ -36,6 +37,6 @@ pub record Opened (s : List ℕ) (l : List ℤ) (head : Head) (offsets : List �
   pub shown : Rows s head.start head.rows
 
 -- circuit and record judged: 1 to 11, 20, 21, or neither
-pub record Opens (s : List ℕ) (l : List ℤ) (r : Outcome) (offsets : List ℕ) : Type 0 where
-  pub refuses : (r.number ≡ 0 → ⊥) → (x : Call) → asks_sound x ≡ true → Refuses s x l r.number r.place
-  pub accepts : r.number ≡ 0 → Opened s l r.head offsets
+pub record Opens (s : List ℕ) (l : List ℤ) (r : Result (Unit {0}) Refused) (known : Known) : Type 0 where
+  pub refuses : (e : Refused) → r ≡ Err e → (x : Call) → asks_sound x ≡ true → Refuses s x l (number_of e.refusal) e.place
+  pub accepts : r ≡ Ok tt → Opened s l (head_of known) known.offsets

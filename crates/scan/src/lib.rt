@@ -1,111 +1,19 @@
 // The calls on a record. Each judges circuit and record first, in the order of the numbers, and then has its one effect.
 #![tactic(auto)]
 
-ghost use Rattle.std.specs.Prelude.{◌≡◌, not, ◌&&◌, [], ◌∷◌, eqb, ◌-◌, ◌<◌, length};
-ghost use Rattle.kinds.specs.Table.{kinds_table};
-ghost use Rattle.refusals.specs.Faults.{◌when◌, lowest};
-ghost use Rattle.record.specs.Places.{size_of};
-ghost use Rattle.record.specs.Sound.{sound, in_scan};
-ghost use Rattle.record.specs.Written.{lines_at, Stand};
-ghost use Rattle.steps.specs.Steps.{done_of};
-ghost use Rattle.calls.specs.Calls.{cold_start, warm_start, latch as latch_call, run as run_call, publish as publish_call, is_reading, answer_after, record_after, outputs_after};
-ghost use Rattle.scan.specs.Opened.{Opens};
+ghost use Rattle.std.specs.Prelude.{◌≡◌, length};
+ghost use Rattle.calls.specs.Calls.{cold_start, warm_start, latch as latch_call, run as run_call, publish as publish_call, answer_after, record_after, outputs_after};
 
-use circuit::Outcome;
-use destinations::OUTPUTS;
-use kinds::KindTable;
+mod judged;
+
 use refusals::Answer;
-
-// A reading: 24 bits, then 8 values; the greatest value, and the greatest e.
-const READING: usize = 32;
-
-const BITS: usize = 24;
-
-const VALUES: usize = 8;
-
-const GREATEST_VALUE: i32 = 1000;
-
-const GREATEST_E: i32 = 65535;
-
-// ---- judging
-
-// 20, 21, or 0 where neither holds.
-fn record_number(
-    kinds: &KindTable,
-    circuit: &[u8],
-    offsets: &[usize; 400],
-    n: usize,
-    rec: &[i32],
-) -> u8
-    requires { (kinds.now ≡ kinds_table) × Stand circuit.now n offsets.now }
-    ensures { result ≡ lowest (20 when not (eqb (length rec.now) (size_of n)) ∷ 21 when not (sound (lines_at circuit.now n offsets.now) rec.now) ∷ []) }
-{
-    if rec.len() != record::size_of(n) {
-        return 20;
-    }
-    if record::is_sound(kinds, circuit, offsets, n, rec) {
-        return 0;
-    }
-    21
-}
-
-// Judges circuit and record: the number and place of a refusal, or 0 and what is known of the circuit.
-fn opened(kinds: &KindTable, circuit: &[u8], rec: &[i32], offsets: &mut [usize; 400]) -> Outcome
-    requires { (kinds.now ≡ kinds_table) × (length offsets.old ≡ 400) }
-    ensures { Opens circuit.now rec.now result offsets.new }
-{
-    let judged = circuit::judge(refusals::ours(), kinds, circuit, offsets);
-    if judged.number != 0 {
-        return judged;
-    }
-    let head = judged.head;
-    let number = record_number(kinds, circuit, offsets, head.n, rec);
-    Outcome {
-        number,
-        place: 0,
-        head,
-    }
-}
-
-// Whether 32 words and e are a reading.
-fn is_reading(inputs: &[i32], e: i32) -> bool
-    ensures { result ≡ is_reading inputs.now e }
-{
-    if inputs.len() != READING {
-        return false;
-    }
-    let bits = record::run_fits(inputs, 0, BITS, 0, 1);
-    let values = record::run_fits(inputs, BITS, VALUES, 0, GREATEST_VALUE);
-    let time = words::within(e, 0, GREATEST_E);
-    words::both(bits, words::both(values, time))
-}
-
-// Whether a scan has no blocks to go.
-fn is_finished(rec: &[i32], n: usize) -> bool
-    ensures { result ≡ (in_scan rec.now && eqb (n - done_of rec.now) 0) }
-{
-    words::both(record::in_scan(rec), n <= record::done_of(rec))
-}
-
-// ---- the calls
 
 // "Cold start zeroes all but M8 and the mark, which become 1."
 pub fn cold_start(circuit: &[u8], rec: &mut [i32]) -> Answer
     ensures { (result ≡ answer_after circuit.now cold_start rec.old)
         × (rec.new ≡ record_after circuit.now cold_start rec.old) }
 {
-    let kinds = kinds::table();
-    let mut offsets = [0usize; 400];
-    let judged = circuit::judge(refusals::ours(), &kinds, circuit, &mut offsets);
-    if judged.number != 0 {
-        return refusals::refused_at(judged.number as usize, judged.place);
-    }
-    let head = judged.head;
-    if rec.len() != record::size_of(head.n) {
-        return refusals::refused_at(20, 0);
-    }
-    effects::cold_words(rec);
-    refusals::accepted_with(0, 0)
+    judged::cold_start(circuit, rec).into()
 }
 
 // "Warm start does that and keeps the three words of retentive blocks."
@@ -113,18 +21,7 @@ pub fn warm_start(circuit: &[u8], rec: &mut [i32]) -> Answer
     ensures { (result ≡ answer_after circuit.now warm_start rec.old)
         × (rec.new ≡ record_after circuit.now warm_start rec.old) }
 {
-    let kinds = kinds::table();
-    let mut offsets = [0usize; 400];
-    let judged = opened(&kinds, circuit, &rec[..], &mut offsets);
-    if judged.number != 0 {
-        return refusals::refused_at(judged.number as usize, judged.place);
-    }
-    if record::in_scan(&rec[..]) {
-        return refusals::refused_at(22, 0);
-    }
-    let head = judged.head;
-    effects::warm_words(&kinds, circuit, &offsets, rec, head.n);
-    refusals::accepted_with(0, 0)
+    judged::warm_start(circuit, rec).into()
 }
 
 // "Latch stores e and 32 input words (I, then analog) and makes the phase 1."
@@ -132,20 +29,7 @@ pub fn latch(circuit: &[u8], rec: &mut [i32], inputs: &[i32], e: i32) -> Answer
     ensures { (result ≡ answer_after circuit.now (latch_call inputs.now e) rec.old)
         × (rec.new ≡ record_after circuit.now (latch_call inputs.now e) rec.old) }
 {
-    let kinds = kinds::table();
-    let mut offsets = [0usize; 400];
-    let judged = opened(&kinds, circuit, &rec[..], &mut offsets);
-    if judged.number != 0 {
-        return refusals::refused_at(judged.number as usize, judged.place);
-    }
-    if record::in_scan(&rec[..]) {
-        return refusals::refused_at(22, 0);
-    }
-    if is_reading(inputs, e) {
-        effects::latch_words(rec, inputs, e);
-        return refusals::accepted_with(0, 0);
-    }
-    refusals::refused_at(23, 0)
+    judged::latch(circuit, rec, inputs, e).into()
 }
 
 // "Run up to c blocks": the next ones, as many as asked or as remain.
@@ -153,18 +37,7 @@ pub fn run(circuit: &[u8], rec: &mut [i32], c: u32) -> Answer
     ensures { (result ≡ answer_after circuit.now (run_call c) rec.old)
         × (rec.new ≡ record_after circuit.now (run_call c) rec.old) }
 {
-    let kinds = kinds::table();
-    let mut offsets = [0usize; 400];
-    let judged = opened(&kinds, circuit, &rec[..], &mut offsets);
-    if judged.number != 0 {
-        return refusals::refused_at(judged.number as usize, judged.place);
-    }
-    if record::in_scan(&rec[..]) {
-        let head = judged.head;
-        let done = steps::turn(&kinds, circuit, &offsets, head.n, rec, c);
-        return refusals::accepted_with(done.worked, done.left);
-    }
-    refusals::refused_at(22, 0)
+    judged::run(circuit, rec, c).into()
 }
 
 // "Publish writes 28 output words .. and all flags at once from the rows."
@@ -173,19 +46,5 @@ pub fn publish(circuit: &[u8], rec: &mut [i32], outs: &mut [i32]) -> Answer
         × (rec.new ≡ record_after circuit.now (publish_call (length outs.old)) rec.old)
         × (outs.new ≡ outputs_after circuit.now (publish_call (length outs.old)) rec.old outs.old) }
 {
-    let kinds = kinds::table();
-    let mut offsets = [0usize; 400];
-    let judged = opened(&kinds, circuit, &rec[..], &mut offsets);
-    if judged.number != 0 {
-        return refusals::refused_at(judged.number as usize, judged.place);
-    }
-    let head = judged.head;
-    if is_finished(&rec[..], head.n) {
-        if outs.len() != OUTPUTS {
-            return refusals::refused_at(24, 0);
-        }
-        destinations::publish_words(circuit, head.start, head.rows, rec, outs);
-        return refusals::accepted_with(0, 0);
-    }
-    refusals::refused_at(22, 0)
+    judged::publish(circuit, rec, outs).into()
 }

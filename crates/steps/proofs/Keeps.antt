@@ -20,8 +20,7 @@ use Rattle.kept.specs.Keeps.{All}
 use Rattle.blocks.specs.Fit as blocks
 use Rattle.blocks.specs.Fit.{Sixteen}
 use Rattle.blocks.proofs.Stays.{stays-sound}
-use Rattle.lines.specs.Lines.{line_at}
-use Rattle.lines.specs.declared.Line.{Line}
+use Rattle.lines.specs.Lines.{Line, line_at}
 use Rattle.record.specs.Places.{elapsed, input, flag, analog_flag, block, output, remembered, number, size_of, index_of, at, word, words_of}
 use Rattle.record.specs.Places as places
 use Rattle.record.specs.Sound.{range_of, fits_at, in_scan, at_rest}

@@ -17,8 +17,7 @@ use Rattle.connectors.specs.Connectors.{Connector, class_of, names_block}
 use Rattle.blocks.specs.Blocks.{worked_out}
 use Rattle.kept.specs.Keeps.{All}
 use Rattle.kept.proofs.Lists.{all_map}
-use Rattle.lines.specs.Lines.{line_at}
-use Rattle.lines.specs.declared.Line.{Line}
+use Rattle.lines.specs.Lines.{Line, line_at}
 use Rattle.record.specs.Places.{Place, elapsed, block, output, number, size_of, index_of, at, word, words_of}
 use Rattle.steps.specs.Steps.{source_of, input_of, bits_of, values_of, becomes, step, count_from, order, along}
 use Rattle.steps.specs.Wired.{Wired}

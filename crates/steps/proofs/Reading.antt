@@ -14,8 +14,7 @@ use Rattle.rules.specs.declared.BlockWords.{BlockWords}
 use Rattle.connectors.specs.Connectors.{Connector}
 use Rattle.kept.specs.Keeps.{All}
 use Rattle.kept.proofs.Lists.{all_map}
-use Rattle.lines.specs.Lines.{line_at}
-use Rattle.lines.specs.declared.Line.{Line}
+use Rattle.lines.specs.Lines.{Line, line_at}
 use Rattle.record.specs.Places.{Place, done, elapsed, block, output, remembered, number, index_of, word, put, put_words}
 use Rattle.steps.specs.Steps.{source_of, input_of, read_from, value_from, plain_bit, bit_from, bits_of, values_of, becomes, step, order, along, steps_from}
 use Rattle.steps.specs.Reads.{or_none, sources, read_by}

@@ -1,7 +1,7 @@
 -- Which places the step of a block reads. Not part of what a reader has to believe.
 use Rattle.std.specs.Prelude.{ℕ, List, [], ◌∷◌}
 use Rattle.std.proofs.Math.Option.{Option, none, some}
-use Rattle.lines.specs.declared.Line.{Line}
+use Rattle.lines.specs.Lines.{Line}
 use Rattle.record.specs.Places.{Place, elapsed, output, remembered, number}
 use Rattle.steps.specs.Steps.{source_of, input_of}
 

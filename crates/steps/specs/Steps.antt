@@ -9,8 +9,7 @@ use Rattle.kinds.specs.Time.{ticks}
 use Rattle.rules.specs.declared.BlockWords.{BlockWords}
 use Rattle.connectors.specs.Connectors.{Connector, class_of, is_inverted}
 use Rattle.blocks.specs.Blocks.{worked_out}
-use Rattle.lines.specs.Lines.{line_at}
-use Rattle.lines.specs.declared.Line.{Line}
+use Rattle.lines.specs.Lines.{Line, line_at}
 use Rattle.record.specs.Places.{Place, done, elapsed, input, analog, flag, analog_flag, output, word, words_of, put, put_words}
 
 -- ---- what a connector reads

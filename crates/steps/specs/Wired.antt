@@ -1,20 +1,49 @@
 -- What a step counts on, of its line and of the record. Not part of what a reader has to believe.
-use Rattle.std.specs.Prelude.{ℕ, ◌≤◌, ◌<◌, ◌≡◌, true, List, length, get_or, ℤ}
+use Rattle.std.specs.Prelude.{ℕ, ◌≤◌, ◌<◌, ◌≡◌, Bool, true, false, List, length, get_or, ℤ, Option, None, Some}
+use Rattle.std.proofs.Math.Option.{Option as Maybe, none, some}
 use Rattle.kinds.specs.Kinds.{known}
 use Rattle.blocks.specs.Fit.{Fit, Sixteen}
 use Rattle.connectors.specs.Connectors.{Connector, class_of}
 use Rattle.blockfield.specs.Marked.{Lies}
 use Rattle.decoding.specs.Decoded.{block_at}
-use Rattle.lines.specs.Lines.{line_of, line_at}
-use Rattle.lines.specs.declared.Line.{Line}
-use Rattle.record.specs.Places.{size_of}
+use Rattle.lines.specs.Lines.{Line, line_of, line_at}
+use Rattle.connectors.specs.declared.class.Class.{Class}
+use Rattle.connectors.specs.declared.class.Class.TheVariants.{Unused, Input, Low, High, Flag, Block, AnalogInput, AnalogFlag, AnalogBlock}
+use Rattle.record.specs.Places.{Place, input, flag, analog, analog_flag, output, size_of}
+use Rattle.record.specs.Said.{said}
+use Rattle.record.specs.declared.place.Place.{Place as Named}
 use Rattle.record.specs.Sound.{sound}
 use Rattle.record.specs.Written.{lines_at, Stand}
-use Rattle.steps.specs.Steps.{input_of, values_of}
+use Rattle.steps.specs.Steps.{read_from, input_of, values_of}
+use Rattle.words.specs.Signed.{bit_of}
 
 -- a class byte and a number as a connector
 abbrev pub connector : ℕ → ℕ → Connector
 connector class number = record { class = class; number = number }
+
+-- the place that a class and a number name
+abbrev pub named : Class → ℕ → Maybe Place
+named Unused n = none
+named Input n = some (input n)
+named Low n = none
+named High n = none
+named Flag n = some (flag n)
+named Block n = some (output n)
+named AnalogInput n = some (analog n)
+named AnalogFlag n = some (analog_flag n)
+named AnalogBlock n = some (output n)
+
+-- the bit that they name, before it is inverted
+abbrev pub plain_named : List ℤ → Bool → Class → ℕ → Bool
+plain_named l unused Unused n = unused
+plain_named l unused Low n = false
+plain_named l unused High n = true
+plain_named l unused class n = bit_of (read_from l (named class n))
+
+-- what the code gives for the place that a connector reads
+abbrev pub source_said : Option Named → Maybe Place
+source_said None = none
+source_said (Some p) = some (said p)
 
 -- the place that a connector reads is one that there is
 pub record Wired (c : Connector) : Type 0 where

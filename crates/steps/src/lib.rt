@@ -1,18 +1,19 @@
 // The inputs of a block, resolved together, its step, and the steps of a turn.
 #![tactic(auto)]
 
-ghost use Rattle.std.specs.Prelude.{◌≡◌, ◌+◌, ◌-◌, ◌≤◌, ◌<◌, min, get_or};
-ghost use Rattle.kinds.specs.Table.{kinds_table};
+ghost use Rattle.std.specs.Prelude.{◌≡◌, ◌+◌, ◌-◌, ◌≤◌, ◌<◌, get_or, IfSome};
 ghost use Rattle.blocks.specs.Fit.{Sixteen};
 ghost use Rattle.decoding.specs.Decoded.{block_at};
-ghost use Rattle.lines.specs.Lines.{line_of};
+ghost use Rattle.lines.specs.Lines.{input_said, line_of, line_said};
 ghost use Rattle.record.specs.Places.{put_words};
 ghost use Rattle.record.specs.Written.{lines_at};
-ghost use Rattle.steps.specs.Steps.{value_from, plain_bit, bit_from, bits_of, values_of, becomes as becomes_of, steps_from, to_go, turn_of, turned};
-ghost use Rattle.steps.specs.Wired.{connector, Fine, Next, Runs};
+ghost use Rattle.record.specs.Said.{Counts};
+ghost use Rattle.steps.specs.Steps.{read_from, value_from, plain_bit, bit_from, bits_of, values_of, becomes as becomes_of, steps_from, to_go, turn_of, turned};
+ghost use Rattle.steps.specs.Wired.{source_said, named, plain_named, Fine, Next, Runs};
 
-use kinds::KindTable;
-use lines::Line;
+use connectors::Class;
+use lines::{Input, Line};
+use record::{Place, Plan};
 use rules::BlockWords;
 
 // What a turn worked out, and what is to go then.
@@ -22,152 +23,153 @@ pub struct Progress {
     pub left: usize,
 }
 
-// The lesser of two.
-fn least(a: usize, b: usize) -> usize
-    ensures { result ≡ min a b }
+// The place that a class and a number name, where they name one.
+fn place_of(class: Class, number: usize) -> Option<Place>
+    requires { number < 65536 }
+    ensures is { source_said result ≡ named class number }
+    ensures counts { IfSome result Counts }
 {
-    if a < b { a } else { b }
+    match class {
+        Class::Input => Some(Place::Input(number)),
+        Class::Flag => Some(Place::Flag(number)),
+        Class::AnalogInput => Some(Place::Analog(number)),
+        Class::AnalogFlag => Some(Place::AnalogFlag(number)),
+        Class::Block | Class::AnalogBlock => Some(Place::Output(number)),
+        Class::Unused | Class::Low | Class::High => None,
+    }
 }
 
-// The word that a connector reads, by its class byte and number; 0 where it reads none.
-pub fn value_from(rec: &[i32], class: usize, number: usize) -> i32
+// The word that they name; 0 where they name none.
+fn word_of(rec: &[i32], class: Class, number: usize) -> i32
     requires { number < 65536 }
-    ensures { result ≡ value_from rec.now (connector class number) }
+    ensures { result ≡ read_from rec.now (named class number) }
 {
-    let k = class & 127;
-    match k {
-        1 => record::input_at(rec, number),
-        4 => record::flag_at(rec, number),
-        6 => record::output_at(rec, number),
-        7 => record::analog_at(rec, number),
-        8 => record::analog_flag_at(rec, number),
-        9 => record::output_at(rec, number),
-        _ => 0,
+    match place_of(class, number) {
+        Some(place) => record::word(rec, place),
+        None => 0,
+    }
+}
+
+// The word that a connector reads; 0 where it reads none.
+pub fn value_from(rec: &[i32], input: Input) -> i32
+    ensures { result ≡ value_from rec.now (input_said input) }
+{
+    match Class::try_from(input.class & 127) {
+        Ok(class) => word_of(rec, class, input.number as usize),
+        Err(_) => 0,
+    }
+}
+
+// The bit that they name: unused as it is said to count, lo 0, hi 1.
+fn bit_of(rec: &[i32], unused: bool, class: Class, number: usize) -> bool
+    requires { number < 65536 }
+    ensures { result ≡ plain_named rec.now unused class number }
+{
+    match class {
+        Class::Unused => unused,
+        Class::Low => false,
+        Class::High => true,
+        _ => word_of(rec, class, number) != 0,
     }
 }
 
 // A digital connector before it is inverted.
-fn plain_bit(rec: &[i32], unused: bool, class: usize, number: usize) -> bool
-    requires { number < 65536 }
-    ensures { result ≡ plain_bit rec.now unused (connector class number) }
+fn plain_bit(rec: &[i32], unused: bool, input: Input) -> bool
+    ensures { result ≡ plain_bit rec.now unused (input_said input) }
 {
-    let k = class & 127;
-    if k == 0 {
-        return unused;
+    match Class::try_from(input.class & 127) {
+        Ok(class) => bit_of(rec, unused, class, input.number as usize),
+        Err(_) => false,
     }
-    if k == 3 {
-        return true;
-    }
-    words::bit_of(value_from(rec, class, number))
 }
 
 // A digital connector.
-pub fn bit_from(rec: &[i32], unused: bool, class: usize, number: usize) -> bool
-    requires { number < 65536 }
-    ensures { result ≡ bit_from rec.now unused (connector class number) }
+#[tactic(auto, unfolding(crate::specs::Steps::bit_from))]
+pub fn bit_from(rec: &[i32], unused: bool, input: Input) -> bool
+    ensures { result ≡ bit_from rec.now unused (input_said input) }
 {
-    (128 <= class) ^ plain_bit(rec, unused, class, number)
+    (128 <= input.class) ^ plain_bit(rec, unused, input)
 }
 
 // The four digital inputs of a line.
-fn bits_of(kinds: &KindTable, rec: &[i32], line: Line) -> [bool; 4]
-    requires { (kinds.now ≡ kinds_table) × Fine line }
-    ensures { result ≡ bits_of rec.now line }
+fn bits_of(rec: &[i32], line: &Line) -> [bool; 4]
+    requires { Fine (line_said line.now) }
+    ensures { result ≡ bits_of rec.now (line_said line.now) }
 {
-    let unused = kinds::unused_counts(kinds, line.kind);
-    let classes = line.classes;
-    let numbers = line.numbers;
+    let unused = line.kind.unused_counts();
     [
-        bit_from(rec, unused, classes[0], numbers[0]),
-        bit_from(rec, unused, classes[1], numbers[1]),
-        bit_from(rec, unused, classes[2], numbers[2]),
-        bit_from(rec, unused, classes[3], numbers[3]),
+        bit_from(rec, unused, line.inputs[0]),
+        bit_from(rec, unused, line.inputs[1]),
+        bit_from(rec, unused, line.inputs[2]),
+        bit_from(rec, unused, line.inputs[3]),
     ]
 }
 
 // The two analog ones.
-fn values_of(rec: &[i32], line: Line) -> [i32; 2]
-    requires { Fine line }
-    ensures { result ≡ values_of rec.now line }
+#[tactic(auto, unfolding(crate::specs::Steps::values_of))]
+fn values_of(rec: &[i32], line: &Line) -> [i32; 2]
+    requires { Fine (line_said line.now) }
+    ensures { result ≡ values_of rec.now (line_said line.now) }
 {
-    let classes = line.classes;
-    let numbers = line.numbers;
-    let x = value_from(rec, classes[0], numbers[0]);
-    let y = value_from(rec, classes[1], numbers[1]);
-    [x, y]
+    [
+        value_from(rec, line.inputs[0]),
+        value_from(rec, line.inputs[1]),
+    ]
 }
 
 // What the three words of block k become.
-fn becomes(kinds: &KindTable, rec: &[i32], k: usize, line: Line) -> BlockWords
-    requires { (kinds.now ≡ kinds_table) × Fine line × Sixteen (values_of rec.now line) × (k ≤ 400) }
-    ensures { result ≡ becomes_of rec.now k line }
+#[tactic(auto, unfolding(crate::specs::Steps::becomes))]
+fn becomes(rec: &[i32], k: usize, line: &Line) -> BlockWords
+    requires { Fine (line_said line.now) × Sixteen (values_of rec.now (line_said line.now)) × (k ≤ 400) }
+    ensures { result ≡ becomes_of rec.now k (line_said line.now) }
 {
-    let bits = bits_of(kinds, rec, line);
+    let bits = bits_of(rec, line);
     let values = values_of(rec, line);
     let was = record::words_of(rec, k);
     let e = record::elapsed_of(rec);
-    let kind = line.kind;
-    let prepared = line.prepared;
-    blocks::worked_out(kind, bits, values, prepared, was, e)
+    blocks::worked_out(line.kind, bits, values, line.prepared, was, e)
 }
 
 // Works out block k: its three words, and no other.
-pub fn step(kinds: &KindTable, rec: &mut [i32], k: usize, line: Line)
-    requires { (kinds.now ≡ kinds_table) × Fine line × Sixteen (values_of rec.old line) × (k ≤ 400) }
-    ensures { rec.new ≡ put_words rec.old k (becomes_of rec.old k line) }
+pub fn step(rec: &mut [i32], k: usize, line: &Line)
+    requires { Fine (line_said line.now) × Sixteen (values_of rec.old (line_said line.now)) × (k ≤ 400) }
+    ensures { rec.new ≡ put_words rec.old k (becomes_of rec.old k (line_said line.now)) }
 {
-    let w = becomes(kinds, &rec[..], k, line);
+    let w = becomes(rec, k, line);
     record::put_words(rec, k, w);
 }
 
 // Works out the block behind the first d.
-fn step_at(kinds: &KindTable, bytes: &[u8], offsets: &[usize; 400], rec: &mut [i32], d: usize)
-    requires { (kinds.now ≡ kinds_table) × Next bytes.now offsets.now d rec.old }
-    ensures { rec.new ≡ put_words rec.old (d + 1) (becomes_of rec.old (d + 1) (line_of (block_at bytes.now (get_or offsets.now d 0)))) }
+fn step_at(plan: &Plan, rec: &mut [i32], d: usize)
+    requires { Next plan.now.bytes.now plan.now.offsets.now d rec.old × (d < plan.now.n) }
+    ensures { rec.new ≡ put_words rec.old (d + 1) (becomes_of rec.old (d + 1) (line_of (block_at plan.now.bytes.now (get_or plan.now.offsets.now d 0)))) }
 {
-    let line = lines::line_at(kinds, bytes, offsets[d]);
-    step(kinds, rec, d + 1, line);
+    step(rec, d + 1, &plan.line(d));
 }
 
-// Works out the m blocks behind the first d, of n.
-fn steps_from(
-    kinds: &KindTable,
-    bytes: &[u8],
-    offsets: &[usize; 400],
-    n: usize,
-    rec: &mut [i32],
-    d: usize,
-    m: usize,
-)
-    requires { (kinds.now ≡ kinds_table) × Runs bytes.now n offsets.now rec.old × (d + m ≤ n) }
-    ensures { rec.new ≡ steps_from (lines_at bytes.now n offsets.now) d m rec.old }
+// Works out the m blocks behind the first d.
+fn steps_from(plan: &Plan, rec: &mut [i32], d: usize, m: usize)
+    requires { Runs plan.now.bytes.now plan.now.n plan.now.offsets.now rec.old × (d + m ≤ plan.now.n) }
+    ensures { rec.new ≡ steps_from (lines_at plan.now.bytes.now plan.now.n plan.now.offsets.now) d m rec.old }
 {
-    let mut i = 0;
-    while i < m {
-        step_at(kinds, bytes, offsets, rec, d + i);
-        i += 1;
+    for i in 0..m {
+        step_at(plan, rec, d + i);
     }
 }
 
 // Works out up to c of the blocks to go, and tells how many were worked out and how many are to go then.
-pub fn turn(
-    kinds: &KindTable,
-    bytes: &[u8],
-    offsets: &[usize; 400],
-    n: usize,
-    rec: &mut [i32],
-    c: u32,
-) -> Progress
-    requires { (kinds.now ≡ kinds_table) × Runs bytes.now n offsets.now rec.old }
-    ensures { (result.worked ≡ turn_of (lines_at bytes.now n offsets.now) c rec.old)
-        × (result.left ≡ to_go (lines_at bytes.now n offsets.now) rec.old - result.worked)
-        × (rec.new ≡ turned (lines_at bytes.now n offsets.now) c rec.old) }
+pub fn turn(plan: &Plan, rec: &mut [i32], c: u32) -> Progress
+    requires { Runs plan.now.bytes.now plan.now.n plan.now.offsets.now rec.old }
+    ensures { let lines = lines_at plan.now.bytes.now plan.now.n plan.now.offsets.now in
+        (result.worked ≡ turn_of lines c rec.old)
+        × (result.left ≡ to_go lines rec.old - result.worked)
+        × (rec.new ≡ turned lines c rec.old) }
 {
-    let d = record::done_of(&rec[..]);
-    let left = n - d;
-    let worked = least(c as usize, left);
-    steps_from(kinds, bytes, offsets, n, rec, d, worked);
-    record::put_done(rec, d + worked);
+    let d = record::done_of(rec);
+    let left = plan.n - d;
+    let worked = (c as usize).min(left);
+    steps_from(plan, rec, d, worked);
+    record::put(rec, Place::Done, (d + worked) as i32);
     Progress {
         worked,
         left: left - worked,

@@ -9,5 +9,5 @@ use Rattle.effects.proofs.cold_words.Goals as goal
 pub returns : goal.returns
 returns c =
     c.begin.ensures
-    ∙ ap (λ (l : List ℤ). put (put l mark (pos 1)) (flag 8) (pos 1)) c.clear_all.ensures
-    ∙ cold_is c.args.rec.now c.requires.0
+    ∙ ap (λ (l : List ℤ). put (put l mark (pos 1)) (flag 8) (pos 1)) (c.fill.ensures.after (λ y h. h))
+    ∙ cold_is c.args.rec.now c.requires

@@ -8,8 +8,10 @@ use Rattle.effects.proofs.Stored.{warm-is}
 use Rattle.effects.proofs.warm_words.Goals as goal
 
 pub returns : goal.returns
+unfolding index_of
 returns c =
-    let cleared = c.clear_fixed.ensures ∙ ap (λ (l : List ℤ). put_all l (index_of phase) (size_of 0) nothing) c.clear_blocks.ensures in
+    let plan = c.args.plan.now in
+    let cleared = c.clear_before.ensures ∙ ap (λ (l : List ℤ). put_all l (index_of phase) (size_of 0) nothing) c.clear_blocks.ensures in
     c.begin.ensures
     ∙ ap (λ (l : List ℤ). put (put l mark (pos 1)) (flag 8) (pos 1)) cleared
-    ∙ warm-is c.args.bytes.now c.args.n c.args.offsets.now c.requires.1 c.args.rec.now c.requires.2
+    ∙ warm-is plan.bytes.now plan.n plan.offsets.now plan.stand c.args.rec.now c.requires

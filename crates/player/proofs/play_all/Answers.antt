@@ -1,38 +1,14 @@
--- `player::play_all` meets its contract: playing the orders that are left from here is playing all of them from the start.
--- Assumes nothing.
-use native.Mathlib.Omega.{arith}
-use mathlib.Core.Path.{refl, sym, ◌∙◌}
-use Rattle.calls.specs.Play.{moment}
-use Rattle.player.proofs.Orders.{play-next, play-end}
+-- `player::play_all` meets its contract: the chunks of three are the orders. Assumes nothing.
+use mathlib.Core.Path.{refl, ap, ◌∙◌}
+use mathlib.Core.List.{List, map}
+use Rattle.calls.specs.Play.{AnyCall, moment, play}
+use Rattle.player.specs.Numbers.{order_call}
+use Rattle.player.proofs.Orders.{whole_orders}
 use Rattle.player.proofs.play_all.Goals as goal
-
-pub loop-at-init : goal.loop-at-init
-loop-at-init c = (omega arith, refl, refl, refl)
-
-pub overflow_sub-orders : goal.overflow_sub-orders
-overflow_sub-orders c = omega arith
-
-pub make_at-requires : goal.make_at-requires
-make_at-requires c = omega arith
-
-pub overflow_add-at : goal.overflow_add-at
-overflow_add-at c = omega arith
-
-pub loop-at-smaller : goal.loop-at-smaller
-loop-at-smaller c = omega arith
-
-pub loop-at-preserved : goal.loop-at-preserved
-loop-at-preserved c =
-    let next = play-next c.args.inputs.now c.args.circuit.now c.args.orders.now c.loop-at.at (omega arith) (moment c.loop-at.rec c.loop-at.outs) c.make_at.ensures in
-    (omega arith, c.make_at.auto.rec ∙ c.loop-at.invariant.1, c.make_at.auto.outs ∙ c.loop-at.invariant.2, sym next ∙ c.loop-at.invariant.3)
-
-pub shape_of-rec : goal.shape_of-rec
-shape_of-rec c = c.loop-at.invariant.1
-
-pub shape_of-outs : goal.shape_of-outs
-shape_of-outs c = c.loop-at.invariant.2
 
 pub returns : goal.returns
 returns c =
-    sym (play-end c.args.inputs.now c.args.circuit.now c.args.orders.now c.loop-at.at (omega arith) (moment c.loop-at.rec c.loop-at.outs))
-    ∙ c.loop-at.invariant.3
+    let a = c.args in
+    c.play_each.ensures
+    ∙ ap (λ (xs : List AnyCall). (play a.circuit.now xs (moment a.rec.now a.outs.now)).last)
+    (ap (map (order_call a.inputs.now)) c.as_chunks.ensures.front ∙ whole_orders a.inputs.now a.orders.now _ refl)

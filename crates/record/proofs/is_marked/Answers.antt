@@ -1,8 +1,0 @@
--- `record::is_marked` meets its contract: the mark stands third. Assumes nothing.
-use Rattle.words.proofs.Locals.{back-ok}
-use Rattle.record.specs.Places.{index_of}
-use Rattle.record.proofs.is_marked.Goals as goal
-
-pub returns : goal.returns
-unfolding index_of
-returns c = rw (← c.word_at.ensures) (rw (back-ok c.word_at.result c.word_at.type_inv) at c.bit_of.ensures)

@@ -1,8 +1,0 @@
--- `record::put_eighth` meets its contract: M8 is the eighth flag. Assumes nothing.
-use Rattle.words.proofs.Locals.{back}
-use Rattle.record.specs.Places.{index_of}
-use Rattle.record.proofs.put_eighth.Goals as goal
-
-pub returns : goal.returns
-unfolding index_of
-returns c = rw (back c.ranges.z) at c.put_word.ensures
