@@ -103,7 +103,7 @@ pub fn index_mark(bytes: &[u8], at: usize) -> usize
     requires { (index_from at + 4 ≤ length bytes.now) × Between (pos 1) (pos 4) (signed_at bytes.now (index_from at)) }
     ensures { (result ≡ index_mark bytes.now at) × (result < 4) }
 {
-    words::amount_of(words::signed_four_at(bytes, at + 14)) as usize - 1
+    words::signed_four_at(bytes, at + 14) as usize - 1
 }
 
 // The kind of a block; `registers` are the marks of the shift registers before.

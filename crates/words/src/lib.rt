@@ -1,4 +1,4 @@
-// Numbers: big-endian bytes of a slice, and signed words as bits, counts and amounts. Knows nothing of circuits.
+// Numbers of a slice's bytes, the high byte first. Knows nothing of circuits.
 #![tactic(auto)]
 
 ghost use Rattle.std.specs.Prelude.{◌≡◌, ◌&&◌, ◌||◌, ◌+◌, ◌≤◌, ◌<◌, ◌^◌, length, get_or, take, drop, pos, ◌≤ℤ◌};
@@ -6,9 +6,6 @@ ghost use Rattle.std.proofs.lemmas.List.Edits.{sets};
 ghost use Rattle.std.specs.Int.{w16, w32};
 ghost use Rattle.std.proofs.Common.{to_z, of_z, SFits};
 ghost use Rattle.words.specs.Bytes.{number_at, bytes_of};
-ghost use Rattle.words.specs.Signed.{over, bit_of, word_of, is_within};
-
-// ---- bytes, the high byte first
 
 // The N bytes at a place.
 pub fn array_at<const N: usize>(bytes: &[u8], at: usize) -> [u8; N]
@@ -106,78 +103,4 @@ pub fn put_signed_four(bytes: &mut [u8], at: usize, x: i32)
     ensures { bytes.new ≡ sets bytes.old at (bytes_of 4 (of_z w32 x)) }
 {
     put(bytes, at, x.to_be_bytes());
-}
-
-// ---- signed words
-
-// The signed number that 32 bits stand for.
-pub fn signed_of(bits: u32) -> i32
-    ensures { result ≡ to_z w32 bits }
-{
-    bits.cast_signed()
-}
-
-// The 32 bits of a signed number.
-pub fn bits_of(x: i32) -> u32
-    ensures { result ≡ of_z w32 x }
-{
-    x.cast_unsigned()
-}
-
-// Whether x lies between two ends, both included.
-pub fn within(x: i32, least: i32, greatest: i32) -> bool
-    ensures { result ≡ is_within x least greatest }
-{
-    (least..=greatest).contains(&x)
-}
-
-// Both bits, with no branch.
-pub fn both(a: bool, b: bool) -> bool
-    ensures { result ≡ (a && b) }
-{
-    a & b
-}
-
-// Either bit, with no branch.
-pub fn either(a: bool, b: bool) -> bool
-    ensures { result ≡ (a || b) }
-{
-    a | b
-}
-
-// A word as a bit: 0 is false.
-pub fn bit_of(x: i32) -> bool
-    ensures { result ≡ bit_of x }
-{
-    x != 0
-}
-
-// A bit as a word, with no branch.
-pub fn word_of(b: bool) -> i32
-    ensures { result ≡ word_of b }
-{
-    b as i32
-}
-
-// A word that is not negative as a count.
-pub fn count_of(x: i32) -> u32
-    requires { pos 0 ≤ℤ x }
-    ensures { pos result ≡ x }
-{
-    x as u32
-}
-
-// A word as an amount: how far it is over zero. It asks nothing.
-pub fn amount_of(x: i32) -> u32
-    ensures { (result ≡ over x) × (result < 2 ^ 31) }
-{
-    x.max(0) as u32
-}
-
-// A count, or an amount, as a word.
-pub fn word_of_count(n: u32) -> i32
-    requires { n < 2 ^ 31 }
-    ensures { result ≡ pos n }
-{
-    n as i32
 }
