@@ -3,7 +3,7 @@
 
 ghost use Rattle.std.specs.Prelude.{◌≡◌, false, not, ◌&&◌, ◌+◌, ◌*◌, ◌≤◌, ◌<◌, eqb, ltb, length, get_or, pos};
 ghost use Rattle.std.specs.Result.{IfOk};
-ghost use Rattle.words.specs.Signed.{Between};
+ghost use Rattle.words.specs.Signed.{Between, over};
 ghost use Rattle.kinds.specs.Codes.{byte_of};
 ghost use Rattle.kinds.specs.Kinds.{kind_of, known, content_length, parameter};
 ghost use Rattle.refusals.specs.Faults.{lowest};
@@ -98,12 +98,20 @@ fn judge_known(reach: &Reach, bytes: &[u8], at: usize, kind: Kind) -> Result<(),
     Ok(())
 }
 
+// The parameter at a place, 0 for a negative one.
+fn amount_at(bytes: &[u8], at: usize) -> usize
+    requires { at + 4 ≤ length bytes.now }
+    ensures { result ≡ over (signed_at bytes.now at) }
+{
+    words::signed_four_at(bytes, at).max(0) as usize
+}
+
 // The mark of a shift register whose index is in its range.
 pub fn index_mark(bytes: &[u8], at: usize) -> usize
     requires { (index_from at + 4 ≤ length bytes.now) × Between (pos 1) (pos 4) (signed_at bytes.now (index_from at)) }
     ensures { (result ≡ index_mark bytes.now at) × (result < 4) }
 {
-    words::signed_four_at(bytes, at + 14) as usize - 1
+    amount_at(bytes, at + 14) - 1
 }
 
 // The kind of a block; `registers` are the marks of the shift registers before.

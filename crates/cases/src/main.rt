@@ -131,12 +131,12 @@ fn answered_for_0ba6(rt: &impl Print, path: &str, circuit: &[u8]) -> io::Result<
 
 // A circuit, under its name.
 fn judged(rt: &impl Print, path: &str, circuit: &[u8]) -> io::Result<()> {
-    let answer = report::judged(rt, circuit)?;
+    let accepted = report::judged(rt, circuit)?;
     answered_for_0ba6(rt, path, circuit)?;
-    if answer.number == 0 {
-        played_with(rt, path, circuit, answer.first)?;
+    match accepted {
+        Some(blocks) => played_with(rt, path, circuit, blocks),
+        None => Ok(()),
     }
-    Ok(())
 }
 
 // The circuit in a file.

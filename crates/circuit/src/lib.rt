@@ -55,7 +55,7 @@ pub fn judge(limits: Limits, circuit: &[u8], known: &mut Known) -> Result<(), Re
 }
 
 // How many blocks and rows an accepted circuit has.
-fn counts(limits: Limits, circuit: &[u8]) -> Result<(usize, usize), Refused>
+pub fn counts(limits: Limits, circuit: &[u8]) -> Result<(usize, usize), Refused>
     requires { Modest limits }
     ensures { result_answer result ≡ answer_at limits circuit.now }
 {

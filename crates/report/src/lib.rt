@@ -4,10 +4,11 @@
 ghost use Rattle.std.specs.Prelude.{◌<◌, IfSome};
 ghost use Rattle.std.specs.Io.{ReadsAtMost};
 
-use decoding::Head;
-use refusals::Answer;
+use decoding::Known;
+use fields::Destination;
+use refusals::{Answer, OLDER, OURS, Refusal, Refused};
+use std::io;
 use std::io::Read;
-use std::{fmt, io};
 
 // The most bytes that a program takes, and one more, so that a longer input shows.
 const MOST: usize = 65536;
@@ -28,14 +29,14 @@ fn is_too_long(rt: &impl Print, bytes: &[u8]) -> io::Result<bool> {
     Ok(true)
 }
 
-// Judges a circuit and prints the answer, or that it is too long: number 1 then, which no accepted circuit has.
-pub fn judged(rt: &impl Print, bytes: &[u8]) -> io::Result<Answer> {
+// Judges a circuit and prints the answer, or that it is too long. Gives how many blocks an accepted one has.
+pub fn judged(rt: &impl Print, bytes: &[u8]) -> io::Result<Option<usize>> {
     if is_too_long(rt, bytes)? {
-        return Ok(refusals::refused_at(1, 0));
+        return Ok(None);
     }
-    let answer = circuit::check(bytes);
-    line(rt, answer)?;
-    Ok(answer)
+    let counts = circuit::counts(OURS, bytes);
+    line(rt, counts.into())?;
+    Ok(counts.ok().map(|(blocks, _)| blocks))
 }
 
 // ---- the series 0BA6: whether a circuit fits, and if not which field stands in the way
@@ -43,55 +44,21 @@ pub fn judged(rt: &impl Print, bytes: &[u8]) -> io::Result<Answer> {
 // The bytes of a row's field.
 const ROW_FIELD: usize = 8;
 
-// The class of a destination.
-#[derive(Clone, Copy)]
-enum Class {
-    Q,
-    M,
-    AQ,
-    AM,
-}
-
-impl Class {
-    // The class that a byte stands for.
-    fn of(byte: u8) -> Option<Class> {
-        match byte {
-            1 => Some(Class::Q),
-            2 => Some(Class::M),
-            3 => Some(Class::AQ),
-            4 => Some(Class::AM),
-            _ => None,
-        }
-    }
-
-    // How many of it the series has.
-    fn most(self) -> usize {
-        let limits = refusals::older();
-        match self {
-            Class::Q => limits.q,
-            Class::M => limits.m,
-            Class::AQ => limits.aq,
-            Class::AM => limits.am,
-        }
-    }
-}
-
-impl fmt::Display for Class {
-    fn fmt<W: fmt::Write>(&self, f: &mut fmt::Formatter<W>) -> fmt::Result {
-        f.write_str(match self {
-            Class::Q => "Q",
-            Class::M => "M",
-            Class::AQ => "AQ",
-            Class::AM => "AM",
-        })
+// The name of a class of destinations.
+fn name(class: Destination) -> &'static str {
+    match class {
+        Destination::Output => "Q",
+        Destination::Flag => "M",
+        Destination::AnalogOutput => "AQ",
+        Destination::AnalogFlag => "AM",
     }
 }
 
 // All of a class that the series has, as Q1 to Q16, or AQ1 and AQ2.
-fn all_of(rt: &impl Print, class: Class) -> io::Result<()> {
-    let most = class.most();
+fn all_of(rt: &impl Print, class: Destination) -> io::Result<()> {
+    let (name, most) = (name(class), class.limit(&OLDER));
     let between = if most == 2 { "and" } else { "to" };
-    print!(rt; "{class}1 {between} {class}{most}")
+    print!(rt; "{name}1 {between} {name}{most}")
 }
 
 // The destination of the row at a place, and which there are.
@@ -99,10 +66,10 @@ fn destination_at(rt: &impl Print, bytes: &[u8], place: usize) -> io::Result<()>
     let Some([_, _, _, class, number, ..]) = bytes.get(place..) else {
         return Ok(());
     };
-    let Some(class) = Class::of(*class) else {
+    let Ok(class) = Destination::try_from(*class) else {
         return Ok(());
     };
-    print!(rt; "its destination is {class}{number}; 0BA6 has ")?;
+    print!(rt; "its destination is {}{number}; 0BA6 has ", name(class))?;
     all_of(rt, class)
 }
 
@@ -114,59 +81,42 @@ fn block_at(offsets: &[usize; 400], place: usize) -> Option<usize>
 }
 
 // The block or the row at a place.
-fn field_at(rt: &impl Print, place: usize, head: Head, offsets: &[usize; 400]) -> io::Result<()> {
-    if place < head.start {
-        let number = match block_at(offsets, place) {
+fn field_at(rt: &impl Print, place: usize, known: &Known) -> io::Result<()> {
+    if place < known.start {
+        let number = match block_at(&known.offsets, place) {
             Some(k) => k + 1,
             None => 0,
         };
         print!(rt; "block {number}")?;
     } else {
-        print!(rt; "row {}", (place - head.start) / ROW_FIELD + 1)?;
+        print!(rt; "row {}", (place - known.start) / ROW_FIELD + 1)?;
     }
     print!(rt; " at byte {place}: ")
 }
 
 // What stands in the way.
-fn misfit(
-    rt: &impl Print,
-    bytes: &[u8],
-    answer: Answer,
-    head: Head,
-    offsets: &[usize; 400],
-) -> io::Result<()> {
-    let place = answer.place;
-    let limits = refusals::older();
-    if answer.number == 4 {
-        let (n, most) = (head.n, limits.blocks);
+fn misfit(rt: &impl Print, bytes: &[u8], refused: Refused, known: &Known) -> io::Result<()> {
+    let place = refused.place;
+    if refused.refusal == Refusal::NumberOfBlocks {
+        let (n, most) = (known.n, OLDER.blocks);
         return print!(rt; "the header says {n} blocks; 0BA6 has at most {most}");
     }
-    field_at(rt, place, head, offsets)?;
-    if answer.number == 9 {
+    field_at(rt, place, known)?;
+    if refused.refusal == Refusal::Destination {
         return destination_at(rt, bytes, place);
     }
-    print!(rt;
-        "a connector names a flag above M{} or AM{}",
-        limits.m, limits.am
-    )
+    print!(rt; "a connector names a flag above M{} or AM{}", OLDER.m, OLDER.am)
 }
 
-// Whether it fits, in words.
-fn fitting(rt: &impl Print, bytes: &[u8], answer: Answer) -> io::Result<()> {
-    if answer.number == 0 {
-        return println!(rt; "fits 0BA6");
-    }
-    let kinds = kinds::table();
-    let mut offsets = [0usize; 400];
-    let judged = circuit::judge(refusals::ours(), &kinds, bytes, &mut offsets);
-    if judged.number != 0 {
+// What a circuit is refused for that does not fit.
+fn misfitting(rt: &impl Print, bytes: &[u8], refused: Refused) -> io::Result<()> {
+    let mut known = Known::new();
+    if let Err(for_any) = circuit::judge(OURS, bytes, &mut known) {
         print!(rt; "is refused for any series: ")?;
-        let refused = refusals::refused_at(judged.number as usize, judged.place);
-        return line(rt, refused);
+        return line(rt, Answer::from(Err(for_any)));
     }
     print!(rt; "does not fit 0BA6: ")?;
-    let head = judged.head;
-    misfit(rt, bytes, answer, head, &offsets)?;
+    misfit(rt, bytes, refused, &known)?;
     println!(rt)
 }
 
@@ -175,9 +125,12 @@ fn judged_for_0ba6(rt: &impl Print, bytes: &[u8]) -> io::Result<()> {
     if is_too_long(rt, bytes)? {
         return Ok(());
     }
-    let answer = circuit::check_profile(bytes);
-    line(rt, answer)?;
-    fitting(rt, bytes, answer)
+    let counts = circuit::counts(OLDER, bytes);
+    line(rt, counts.into())?;
+    match counts {
+        Ok(_) => println!(rt; "fits 0BA6"),
+        Err(refused) => misfitting(rt, bytes, refused),
+    }
 }
 
 // ---- what is read
