@@ -135,7 +135,8 @@ fn judged_for_0ba6(rt: &impl Print, bytes: &[u8]) -> io::Result<()> {
 
 // ---- what is read
 
-// Reads until the buffer is full or the input ends, and answers how many bytes stand at its start.
+// Reads until the buffer is full or the input ends, and answers how many bytes stand at its start. By hand: std's `read_exact` refuses a
+// shorter input, and does not tell how much of it there was.
 pub fn read_full(input: &mut impl Read, buffer: &mut [u8]) -> io::Result<usize>
     ensures { ReadsAtMost result buffer.new }
 {
