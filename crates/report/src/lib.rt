@@ -105,7 +105,10 @@ fn misfit(rt: &impl Print, bytes: &[u8], refused: Refused, known: &Known) -> io:
     if refused.refusal == Refusal::Destination {
         return destination_at(rt, bytes, place);
     }
-    print!(rt; "a connector names a flag above M{} or AM{}", OLDER.m, OLDER.am)
+    print!(rt;
+        "a connector names a flag above M{} or AM{}",
+        OLDER.m, OLDER.am
+    )
 }
 
 // What a circuit is refused for that does not fit.
