@@ -133,19 +133,6 @@ unfolding every
 each-every zero f h = refl
 each-every (suc n) f h = rw (each-every n f (λ i g. h i (omega arith)), h n (omega arith))
 
--- one that fails
-pub one-fails : (n : ℕ) (f : ℕ → Bool) (i : ℕ) → i < n → f i ≡ false → every n f ≡ false
-unfolding every
-one-fails zero f i h e = let z : ⊥ = omega arith in absurd z
-one-fails (suc n) f i h e =
-    ⊎_elim (λ (g : i ≡ n). (and-false (every n f) (f n)).1 (λ t. ap f (sym g) ∙ e))
-    (λ (g : i < n). rw (one-fails n f i g e))
-    (eq-or-lt_of_le {n = i} {m = n} (omega arith))
-
-and_assoc : (a b c : Bool) → (a && b) && c ≡ a && (b && c)
-and_assoc true b c = refl
-and_assoc false b c = refl
-
 -- a part of some words
 pub run-all : (r : Range) (l : List ℤ) (a m : ℕ) → a + m ≤ length l → run_fits r l a m ≡ all_fit r (take m (drop a l))
 unfolding every

@@ -4,7 +4,7 @@ ghost use Rattle.blockfield.specs.Marked.{Lies};
 ghost use Rattle.decoding.specs.Decoded.{block_at};
 ghost use Rattle.lines.specs.Lines.{line_of};
 ghost use Rattle.record.specs.Places.{size_of, index_of, word};
-ghost use Rattle.record.specs.Said.{said, Counts};
+ghost use Rattle.record.specs.Said.{said};
 ghost use Rattle.record.specs.Sound.{at_rest, sound};
 ghost use Rattle.record.specs.Written.{all_fit, head_fits, fixed_fit, block_fits, blocks_fit, lines_at};
 
@@ -14,7 +14,7 @@ use crate::plan::Plan;
 
 // The word at a place that the record has.
 fn held(rec: &[i32], place: Place) -> i32
-    requires { Counts place × (index_of (said place) < length rec.now) }
+    requires { index_of (said place) < length rec.now }
     ensures { result ≡ word rec.now (said place) }
 {
     rec[place.index()]
@@ -67,6 +67,7 @@ fn block_fits(bytes: &[u8], at: usize, rec: &[i32], k: usize) -> bool
 {
     let kind = lines::kind_at(bytes, at);
     let time = lines::time_at(bytes, at);
+    let k = k as u16;
     let output = kind.output_fits(held(rec, Place::Output(k)));
     let remembered = kind.remembered_fits(held(rec, Place::Remembered(k)));
     let number = kind.number_fits(time, held(rec, Place::Number(k)));

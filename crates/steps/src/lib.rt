@@ -1,13 +1,12 @@
 // The inputs of a block, resolved together, its step, and the steps of a turn.
 #![tactic(auto)]
 
-ghost use Rattle.std.specs.Prelude.{◌≡◌, ◌+◌, ◌-◌, ◌≤◌, ◌<◌, get_or, IfSome};
+ghost use Rattle.std.specs.Prelude.{◌≡◌, ◌+◌, ◌-◌, ◌≤◌, ◌<◌, get_or};
 ghost use Rattle.blocks.specs.Fit.{Sixteen};
 ghost use Rattle.decoding.specs.Decoded.{block_at};
 ghost use Rattle.lines.specs.Lines.{input_said, line_of, line_said};
 ghost use Rattle.record.specs.Places.{put_words};
 ghost use Rattle.record.specs.Written.{lines_at};
-ghost use Rattle.record.specs.Said.{Counts};
 ghost use Rattle.steps.specs.Steps.{read_from, value_from, plain_bit, bit_from, bits_of, values_of, becomes as becomes_of, steps_from, to_go, turn_of, turned};
 ghost use Rattle.steps.specs.Wired.{source_said, named, plain_named, Fine, Next, Runs};
 
@@ -24,10 +23,8 @@ pub struct Progress {
 }
 
 // The place that a class and a number name, where they name one.
-fn place_of(class: Class, number: usize) -> Option<Place>
-    requires { number < 65536 }
-    ensures is { source_said result ≡ named class number }
-    ensures counts { IfSome result Counts }
+fn place_of(class: Class, number: u16) -> Option<Place>
+    ensures { source_said result ≡ named class number }
 {
     match class {
         Class::Input => Some(Place::Input(number)),
@@ -40,8 +37,7 @@ fn place_of(class: Class, number: usize) -> Option<Place>
 }
 
 // The word that they name; 0 where they name none.
-fn word_of(rec: &[i32], class: Class, number: usize) -> i32
-    requires { number < 65536 }
+fn word_of(rec: &[i32], class: Class, number: u16) -> i32
     ensures { result ≡ read_from rec.now (named class number) }
 {
     match place_of(class, number) {
@@ -55,14 +51,13 @@ pub fn value_from(rec: &[i32], input: Input) -> i32
     ensures { result ≡ value_from rec.now (input_said input) }
 {
     match Class::try_from(input.class & 127) {
-        Ok(class) => word_of(rec, class, input.number as usize),
+        Ok(class) => word_of(rec, class, input.number),
         Err(_) => 0,
     }
 }
 
 // The bit that they name: unused as it is said to count, lo 0, hi 1.
-fn bit_of(rec: &[i32], unused: bool, class: Class, number: usize) -> bool
-    requires { number < 65536 }
+fn bit_of(rec: &[i32], unused: bool, class: Class, number: u16) -> bool
     ensures { result ≡ plain_named rec.now unused class number }
 {
     match class {
@@ -78,7 +73,7 @@ fn plain_bit(rec: &[i32], unused: bool, input: Input) -> bool
     ensures { result ≡ plain_bit rec.now unused (input_said input) }
 {
     match Class::try_from(input.class & 127) {
-        Ok(class) => bit_of(rec, unused, class, input.number as usize),
+        Ok(class) => bit_of(rec, unused, class, input.number),
         Err(_) => false,
     }
 }
