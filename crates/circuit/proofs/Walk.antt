@@ -16,7 +16,8 @@ use Rattle.fields.specs.Marks.{mark}
 use Rattle.fields.proofs.Laws.{mark-below}
 use Rattle.decoding.specs.Decoded.{header_in, block_in, label_in, row_in, end_in, State, index_used, destination_used, size_at, next_at, header_taken, block_taken, label_taken, row_taken, end_taken, nothing, circuit_of, block_at}
 use Rattle.circuit.specs.Circuit.{is_cut, tag_faults, field_faults, field_number, taken, closing, walk, refused, accepted, verdict_at}
-use Rattle.decoding.specs.Held.{rows_at, Seen, seen, head_of, Nothing, Judged, Judges, Sound, Holds}
+use Rattle.decoding.proofs.Steps.{refuses}
+use Rattle.decoding.specs.Held.{rows_at, Seen, seen, head_of, Nothing, Adds, Judged, Judges, Sound, Holds}
 use Rattle.refusals.specs.declared.Field.{Field}
 use Rattle.decoding.specs.declared.known.Known.{Known}
 use Rattle.circuit.specs.Read.{Reads}
@@ -39,13 +40,6 @@ judges-as {limits} {s} {r} p q t j =
       sound = j.sound;
     }
 
--- a field that is cut short, by its head or by its content
-pub head-cut : (s : List ℕ) (at : ℕ) → length s < at + 3 → is_cut s at ≡ true
-head-cut s at h = simp (lt-ltb _ _ h)
-
-pub content-cut : (s : List ℕ) (at : ℕ) → at + 3 ≤ length s → length s < next_at s at → is_cut s at ≡ true
-content-cut s at l h = simp (le-ltb _ _ l, lt-ltb _ _ h)
-
 module _ (limits : Limits) (s : List ℕ) (at : ℕ) (st : State) where
   pub cut-short : is_cut s at ≡ true → 1 ≡ field_number limits s at st
   unfolding field_number field_faults
@@ -64,63 +58,62 @@ module _ (limits : Limits) (s : List ℕ) (at : ℕ) (st : State) where
       let l : at + 3 ≤ length s = omega arith in
       simp (le-ltb _ _ l, le-ltb _ _ h) refl
 
-module _ (limits : Limits) (s : List ℕ) (at size : ℕ) (q : size ≡ size_at s at) (fit : (at + 3) + size ≤ length s) (st : State) where
-  whole : next_at s at ≤ length s
-  whole = subst (λ (z : ℕ). (at + 3) + z ≤ length s) q fit
+-- a field that was read at a place: what is said of its bytes and its place is said of those where it was read
+module _ (limits : Limits) (s : List ℕ) (at next : ℕ) (f : Field) (reads : Reads s at (Ok f) next) (before after : Seen) (number : ℕ) where
+  abbrev said : ℕ → Judged
+  said i = record { number = number; next = i; seen = after }
+
+  there : Answers limits f.bytes.now f.at before (said ((f.at + 3) + f.size)) → Answers limits s at before (said next)
+  there a =
+      let n : (f.at + 3) + f.size ≡ next = omega (arith, reads.1, reads.2, reads.3) in
+      subst (λ (l : List ℕ). Answers limits l at before (said next)) reads.0
+      (subst (λ (i : ℕ). Answers limits f.bytes.now i before (said next)) reads.1
+      (subst (λ (i : ℕ). Answers limits f.bytes.now f.at before (said i)) n a))
+
+  sized : f.size ≡ size_at f.bytes.now f.at
+  sized = reads.2 ∙ ap₂ size_at (sym reads.0) (sym reads.1)
+
+  whole : next_at f.bytes.now f.at ≤ length f.bytes.now
+  whole = subst (λ (z : ℕ). (f.at + 3) + z ≤ length f.bytes.now) sized f.inside
 
   -- what holds for the field's own tag holds for the field
-  module _ (faults : ℕ → List Fault) (then : State) (is-faults : tag_faults limits s at st ≡ faults (size_at s at)) (is-then : taken s at st ≡ then) where
-    by-tag : (r : Judged) → Judges limits s (lowest (faults size)) ((at + 3) + size) then r → Judges limits s (field_number limits s at st) (next_at s at) (taken s at st) r
-    by-tag r j =
-        judges-as
-        (ap (λ (z : ℕ). lowest (faults z)) q ∙ ap lowest (sym is-faults) ∙ field-tag limits s at st whole)
-        (ap (λ (z : ℕ). (at + 3) + z) q)
-        (sym is-then)
-        j
+  by-tag : (faults : ℕ → State → List Fault) (then : State → State) → ((st : State) → tag_faults limits f.bytes.now f.at st ≡ faults (size_at f.bytes.now f.at) st) → ((st : State) → taken f.bytes.now f.at st ≡ then st)
+      → Adds limits f.bytes.now before (faults f.size) ((f.at + 3) + f.size) then (said ((f.at + 3) + f.size)) → Answers limits s at before (said next)
+  by-tag faults then is-faults is-then adds =
+      there (λ st h.
+      judges-as
+      (ap (λ (z : ℕ). lowest (faults z st)) sized ∙ ap lowest (sym (is-faults st)) ∙ field-tag limits f.bytes.now f.at st whole)
+      (ap (λ (z : ℕ). (f.at + 3) + z) sized)
+      (sym (is-then st))
+      (adds st h))
 
-  pub field-header : (r : Judged) → get_or s at 0 ≡ 0x01 → Judges limits s (lowest (header_in limits s at size st)) ((at + 3) + size) (header_taken s at st) r → Judges limits s (field_number limits s at st) (next_at s at) (taken s at st) r
+  pub field-header : get_or f.bytes.now f.at 0 ≡ 0x01 → Adds limits f.bytes.now before (header_in limits f.bytes.now f.at f.size) ((f.at + 3) + f.size) (header_taken f.bytes.now f.at) (said ((f.at + 3) + f.size)) → Answers limits s at before (said next)
   unfolding tag_faults taken
-  field-header r t j =
-      by-tag (λ z. header_in limits s at z st) (header_taken s at st) (of-header _ _ _ _ _ _ _ t) (of-header _ _ _ _ _ _ _ t) r j
+  field-header t = by-tag (header_in limits f.bytes.now f.at) (header_taken f.bytes.now f.at) (λ st. of-header _ _ _ _ _ _ _ t) (λ st. of-header _ _ _ _ _ _ _ t)
 
-  pub field-block : (r : Judged) → get_or s at 0 ≡ 0x10 → Judges limits s (lowest (block_in limits s at size st)) ((at + 3) + size) (block_taken s at st) r → Judges limits s (field_number limits s at st) (next_at s at) (taken s at st) r
+  pub field-block : get_or f.bytes.now f.at 0 ≡ 0x10 → Adds limits f.bytes.now before (block_in limits f.bytes.now f.at f.size) ((f.at + 3) + f.size) (block_taken f.bytes.now f.at) (said ((f.at + 3) + f.size)) → Answers limits s at before (said next)
   unfolding tag_faults taken
-  field-block r t j =
-      by-tag (λ z. block_in limits s at z st) (block_taken s at st) (of-block _ _ _ _ _ _ _ t) (of-block _ _ _ _ _ _ _ t) r j
+  field-block t = by-tag (block_in limits f.bytes.now f.at) (block_taken f.bytes.now f.at) (λ st. of-block _ _ _ _ _ _ _ t) (λ st. of-block _ _ _ _ _ _ _ t)
 
-  pub field-label : (r : Judged) → get_or s at 0 ≡ 0x20 → Judges limits s (lowest (label_in size st)) ((at + 3) + size) (label_taken s at st) r → Judges limits s (field_number limits s at st) (next_at s at) (taken s at st) r
+  pub field-label : get_or f.bytes.now f.at 0 ≡ 0x20 → Adds limits f.bytes.now before (label_in f.size) ((f.at + 3) + f.size) (label_taken f.bytes.now f.at) (said ((f.at + 3) + f.size)) → Answers limits s at before (said next)
   unfolding tag_faults taken
-  field-label r t j =
-      by-tag (λ z. label_in z st) (label_taken s at st) (of-label _ _ _ _ _ _ _ t) (of-label _ _ _ _ _ _ _ t) r j
+  field-label t = by-tag label_in (label_taken f.bytes.now f.at) (λ st. of-label _ _ _ _ _ _ _ t) (λ st. of-label _ _ _ _ _ _ _ t)
 
-  pub field_row : (r : Judged) → get_or s at 0 ≡ 0x30 → Judges limits s (lowest (row_in limits s at size st)) ((at + 3) + size) (row_taken s at st) r → Judges limits s (field_number limits s at st) (next_at s at) (taken s at st) r
+  pub field_row : get_or f.bytes.now f.at 0 ≡ 0x30 → Adds limits f.bytes.now before (row_in limits f.bytes.now f.at f.size) ((f.at + 3) + f.size) (row_taken f.bytes.now f.at) (said ((f.at + 3) + f.size)) → Answers limits s at before (said next)
   unfolding tag_faults taken
-  field_row r t j =
-      by-tag (λ z. row_in limits s at z st) (row_taken s at st) (of_row _ _ _ _ _ _ _ t) (of_row _ _ _ _ _ _ _ t) r j
+  field_row t = by-tag (row_in limits f.bytes.now f.at) (row_taken f.bytes.now f.at) (λ st. of_row _ _ _ _ _ _ _ t) (λ st. of_row _ _ _ _ _ _ _ t)
 
-  pub field_end : (r : Judged) → get_or s at 0 ≡ 0x7F → Judges limits s (lowest (end_in size st)) ((at + 3) + size) (end_taken st) r → Judges limits s (field_number limits s at st) (next_at s at) (taken s at st) r
+  pub field_end : get_or f.bytes.now f.at 0 ≡ 0x7F → Adds limits f.bytes.now before (end_in f.size) ((f.at + 3) + f.size) end_taken (said ((f.at + 3) + f.size)) → Answers limits s at before (said next)
   unfolding tag_faults taken
-  field_end r t j =
-      by-tag (λ z. end_in z st) (end_taken st) (of_end _ _ _ _ _ _ _ t) (of_end _ _ _ _ _ _ _ t) r j
+  field_end t = by-tag end_in end_taken (λ st. of_end _ _ _ _ _ _ _ t) (λ st. of_end _ _ _ _ _ _ _ t)
 
-  pub field-other : (get_or s at 0 ≡ 0x01 → ⊥) → (get_or s at 0 ≡ 0x10 → ⊥) → (get_or s at 0 ≡ 0x20 → ⊥) → (get_or s at 0 ≡ 0x30 → ⊥) → (get_or s at 0 ≡ 0x7F → ⊥) → 2 ≡ field_number limits s at st
+  pub field-other : (get_or f.bytes.now f.at 0 ≡ 0x01 → ⊥) → (get_or f.bytes.now f.at 0 ≡ 0x10 → ⊥) → (get_or f.bytes.now f.at 0 ≡ 0x20 → ⊥) → (get_or f.bytes.now f.at 0 ≡ 0x30 → ⊥) → (get_or f.bytes.now f.at 0 ≡ 0x7F → ⊥) → number ≡ 2 → Answers limits s at before (said next)
   unfolding tag_faults
-  field-other a b c d e = sym (ap lowest (of_other (get_or s at 0) _ _ _ _ _ (2 when true ∷ []) a b c d e)) ∙ field-tag limits s at st whole
-
--- ---- what is said of a field that was read is said of its place
-
-pub sized : (s : List ℕ) (at next : ℕ) (f : Field) → Reads s at (Ok f) next → f.size ≡ size_at f.bytes.now f.at
-sized s at next f reads = reads.2 ∙ ap₂ size_at (sym reads.0) (sym reads.1)
-
-pub there : (limits : Limits) (s : List ℕ) (at next : ℕ) (f : Field) → Reads s at (Ok f) next → (before after : Seen) (number : ℕ)
-    → Answers limits f.bytes.now f.at before (record { number = number; next = (f.at + 3) + f.size; seen = after })
-    → Answers limits s at before (record { number = number; next = next; seen = after })
-there limits s at next f reads before after number a =
-    let said : (i : ℕ) → Judged = λ i. record { number = number; next = i; seen = after } in
-    let n : (f.at + 3) + f.size ≡ next = omega (arith, reads.1, reads.2, reads.3) in
-    subst (λ (l : List ℕ). Answers limits l at before (said next)) reads.0
-    (subst (λ (i : ℕ). Answers limits f.bytes.now i before (said next)) reads.1
-    (subst (λ (i : ℕ). Answers limits f.bytes.now f.at before (said i)) n a))
+  field-other a b c d e two =
+      there (λ st h.
+      refuses
+      (two ∙ sym (ap lowest (of_other (get_or f.bytes.now f.at 0) _ _ _ _ _ (2 when true ∷ []) a b c d e)) ∙ field-tag limits f.bytes.now f.at st whole)
+      (λ z. omega (arith, two)))
 
 -- ---- the walk
 

@@ -11,6 +11,7 @@ use lib.ListN.{length, get_or, take, set, length-append, length-set}
 use lib.IntN.{ℤ, pos}
 use lib.Seq.{take-suc-set, get_or-set_same, get_or-set_other}
 use borrow.Author.Tests.{eqb-true, eqb-false}
+use Rattle.std.proofs.lemmas.List.{map-append}
 use Rattle.words.specs.Bytes.{number_at}
 use Rattle.words.specs.Signed.{over}
 use Rattle.words.proofs.Bounds.{amount-between, count-is}
@@ -35,10 +36,6 @@ use Rattle.decoding.proofs.Marked.{Marks, row-marked, register-same, register-ma
 use Rattle.decoding.proofs.Right.{header-iff, label-iff, end-iff, block-right, row-right}
 
 -- ---- lists
-
-map_snoc : {A B : Type 0} (f : A → B) (l : List A) (x : A) → map f (l ++ (x ∷ [])) ≡ map f l ++ (f x ∷ [])
-map_snoc f [] x = refl
-map_snoc f (y ∷ l) x = ap (λ r. f y ∷ r) (map_snoc f l x)
 
 -- what holds of each element of a list up to a place holds, after a store there, up to the next
 one_more : (P : ℕ → Type 0) (l : List ℕ) (i v : ℕ) → i < length l → ((k : ℕ) → k < i → P (get_or l k 0)) → P v → (k : ℕ) → k < i + 1 → P (get_or (set l i v) k 0)
@@ -264,12 +261,12 @@ module _ (limits : Limits) (s : List ℕ) (at size : ℕ) (fit : (at + 3) + size
               sorts =
                   rw add-one (take-suc-set seen.sorts seen.head.blocks x room)
                   ∙ ap₂ (λ (l : List Bool) (y : Bool). l ++ (y ∷ [])) h.sorts q
-                  ∙ sym (map_snoc is_analog_block st.blocks (block_at s at));
+                  ∙ sym (map-append is_analog_block st.blocks (block_at s at ∷ []));
               offsets =
                   rw add-one (ap (map (block_at s)) (take-suc-set seen.offsets seen.head.blocks at room'))
-                  ∙ map_snoc (block_at s) (take seen.head.blocks seen.offsets) at
+                  ∙ map-append (block_at s) (take seen.head.blocks seen.offsets) (at ∷ [])
                   ∙ ap (λ (l : List Block). l ++ (block_at s at ∷ [])) h.offsets
-                  ∙ sym (map_snoc bare st.blocks (block_at s at));
+                  ∙ sym (map-append bare st.blocks (block_at s at ∷ []));
               registers = registers-held ρ ρ-is right.is-allowed;
               used = h.used;
               lie = one_more (Lies s) seen.offsets seen.head.blocks at room' h.lie lies;

@@ -117,3 +117,10 @@ abbrev pub Takes : Limits → Field → Known → (State → List Fault) → (St
 Takes limits field before faults then r after =
     let next = (field.at + 3) + field.size in
     Adds limits field.bytes.now (seen before) faults next then (judged r next (seen after))
+
+-- of what is known the arrays stay
+pub record SameArrays (before after : Known) : Type 0 where
+  pub offsets : after.offsets ≡ before.offsets
+  pub sorts : after.sorts ≡ before.sorts
+  pub used : after.used ≡ before.used
+  pub registers : after.registers ≡ before.registers

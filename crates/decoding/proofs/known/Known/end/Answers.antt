@@ -5,9 +5,9 @@ use Rattle.decoding.specs.Held.{seen}
 use Rattle.decoding.proofs.Steps.{end-taken}
 use Rattle.decoding.proofs.known.Known.end.Goals as goal
 
-pub returns : goal.returns
-returns c =
+pub returns-clause-takes : goal.returns-clause-takes
+returns-clause-takes c =
     let f = c.args.field.now in
-    λ limits st h.
-    end-taken limits f.bytes.now f.at f.size (seen c.args.self.now) c.requires.0 st h c.requires.1
+    λ limits s st h.
+    end-taken limits s f.at f.size (seen c.args.self.now) c.requires.0 st h c.requires.1
     (sym (ap number_in c.in_ok-judge_end.was) ∙ c.judge_end.ensures)

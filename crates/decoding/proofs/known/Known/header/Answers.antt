@@ -5,8 +5,8 @@ use Rattle.decoding.specs.Held.{seen}
 use Rattle.decoding.proofs.Steps.{header-taken}
 use Rattle.decoding.proofs.known.Known.header.Goals as goal
 
-pub returns : goal.returns
-returns c =
+pub returns-clause-takes : goal.returns-clause-takes
+returns-clause-takes c =
     let f = c.args.field.now in
     λ st h.
     header-taken c.args.limits.now f.bytes.now f.at f.size f.inside (seen c.args.self.now) c.requires.0 st h c.requires.1 _ _ c.in_ok-self.ensures.n c.end-self.ensures

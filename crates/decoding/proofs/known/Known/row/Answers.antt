@@ -7,14 +7,18 @@ use Rattle.decoding.specs.Held.{seen}
 use Rattle.decoding.proofs.Steps.{row_same, row-taken, passes-on}
 use Rattle.decoding.proofs.known.Known.row.Goals as goal
 
-pub returns-in_err-mark : goal.returns-in_err-mark
-returns-in_err-mark c =
+pub returns-in_err-mark-clause-takes : goal.returns-in_err-mark-clause-takes
+returns-in_err-mark-clause-takes c =
     let f = c.args.field.now in
-    λ st h. passes-on c.in_err-mark.was (search rules) (c.judge_row.ensures.number ∙ row_same c.args.limits.now f.bytes.now f.at f.size (seen c.args.self.now) st h)
+    let r = c.reach-reach.ensures in
+    let number = rw (r.limits, r.n, r.blocks, r.sorts) at c.judge_row.ensures.number in
+    λ st h. passes-on c.in_err-mark.was (search rules) (number ∙ row_same c.args.limits.now f.bytes.now f.at f.size (seen c.args.self.now) st h)
 
-pub returns : goal.returns
-returns c =
+pub returns-clause-takes : goal.returns-clause-takes
+returns-clause-takes c =
     let f = c.args.field.now in
+    let r = c.reach-reach.ensures in
+    let number = rw (r.limits, r.n, r.blocks, r.sorts) at c.judge_row.ensures.number in
     λ st h.
     row-taken c.args.limits.now f.bytes.now f.at f.size f.inside (seen c.args.self.now) c.requires.0 st h c.requires.1 c.requires.2 _ c.in_ok-mark.ensures.mark.0
-    (sym (ap number_in c.in_ok-mark.was) ∙ c.judge_row.ensures.number)
+    (sym (ap number_in c.in_ok-mark.was) ∙ number)
