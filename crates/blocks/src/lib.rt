@@ -11,7 +11,8 @@ ghost use Rattle.blocks.specs.Blocks.{time_of, prepared, was_bit, was_on, was_pr
 ghost use Rattle.blocks.specs.Fit.{Fit, Sixteen, Scaling};
 
 use kinds::{Kind, Setting, Ticks};
-use rules::BlockWords;
+use rules::{BlockWords, Run};
+use stairway::Times;
 
 // A block's parameters, made ready: its settings T, T! and T!L in ticks, Off worked out.
 #[derive(Clone, Copy)]
@@ -94,13 +95,24 @@ fn was_number(was: BlockWords) -> u32
     was.number.max(0) as u32
 }
 
+// The time of a block that runs.
+fn run_of(p: Prepared, was: BlockWords, e: Ticks) -> Run
+    requires { (p.time.0 < 2 ^ 31) × (e.0 < 2 ^ 31) }
+    ensures { (result.ta ≡ ticks (was_number was)) × (result.t ≡ p.time) × (result.e ≡ e) }
+{
+    Run {
+        ta: Ticks(was_number(was)),
+        t: p.time,
+        e,
+    }
+}
+
 // A block of kind 9: Trg.
 fn on_block(bits: [bool; 4], p: Prepared, was: BlockWords, e: Ticks) -> BlockWords
     requires { (p.time.0 < 2 ^ 31) × (e.0 < 2 ^ 31) }
     ensures { result ≡ on_delay (bit bits 0) (was_bit was) (ticks (was_number was)) p.time e }
 {
-    let ta = Ticks(was_number(was));
-    rules::on_delay(bits[0], was_bit(was), ta, p.time, e)
+    rules::on_delay(bits[0], was_bit(was), run_of(p, was, e))
 }
 
 // A block of kind 10: Trg, R.
@@ -108,8 +120,8 @@ fn off_block(bits: [bool; 4], p: Prepared, was: BlockWords, e: Ticks) -> BlockWo
     requires { (p.time.0 < 2 ^ 31) × (e.0 < 2 ^ 31) }
     ensures { result ≡ off_delay (bit bits 1) (bit bits 0) (was_bit was) (was_on was) (ticks (was_number was)) p.time e }
 {
-    let ta = Ticks(was_number(was));
-    rules::off_delay(bits[1], bits[0], was_bit(was), was_on(was), ta, p.time, e)
+    let run = run_of(p, was, e);
+    rules::off_delay(bits[1], bits[0], was_bit(was), was_on(was), run)
 }
 
 // A block of kind 12: In, Trg, Dir.
@@ -177,16 +189,12 @@ fn stairs_block(bits: [bool; 4], p: Prepared, was: BlockWords, e: Ticks) -> Bloc
     requires { (p.time.0 < 2 ^ 31) × (p.warning.0 ≤ p.time.0) × (p.dark.0 ≤ p.time.0) × (e.0 < 2 ^ 31) }
     ensures { result ≡ stairway_switch (bit bits 0) (was_pressed was) (was_running was) (ticks (was_number was)) p.time p.warning p.dark e }
 {
-    stairway::stairway_switch(
-        bits[0],
-        was_pressed(was),
-        was_running(was),
-        Ticks(was_number(was)),
-        p.time,
-        p.warning,
-        p.dark,
-        e,
-    )
+    let times = Times {
+        run: run_of(p, was, e),
+        warning: p.warning,
+        dark: p.dark,
+    };
+    stairway::stairway_switch(bits[0], was_pressed(was), was_running(was), times)
 }
 
 // A block of kind 19: Ax.

@@ -3,8 +3,6 @@
 // latch that must be refused; and a cold start and nine scans, a tick apart, of which it shows Q1.
 #![tactic(auto)]
 
-ghost use Rattle.std.specs.Prelude.{◌≡◌, length};
-
 use report::ROOM;
 use std::env::{Env, FillError};
 use std::rt::Files;
@@ -19,24 +17,17 @@ const RECORD: usize = 1364;
 
 // 32 input words: I1 is 1, the others are 1 in every second scan; the analog ones are as told.
 fn reading(scan: u32, analog: i32) -> [i32; 32] {
-    let mut inputs = [words::word_of(scan % 2 == 0); 32];
+    let mut inputs = [(scan % 2 == 0) as i32; 32];
     inputs[0] = 1;
-    inputs[24] = analog;
-    inputs[25] = analog;
-    inputs[26] = analog;
-    inputs[27] = analog;
-    inputs[28] = analog;
-    inputs[29] = analog;
-    inputs[30] = analog;
-    inputs[31] = analog;
+    inputs[24..].fill(analog);
     inputs
 }
 
 // 32 input words: I1 is 1 in the first two scans, I2 in every second from the first on; the others are 0.
 fn short_reading(scan: u32) -> [i32; 32] {
     let mut inputs = [0i32; 32];
-    inputs[0] = words::word_of(scan <= 2);
-    inputs[1] = words::word_of(scan % 2 == 1);
+    inputs[0] = (scan <= 2) as i32;
+    inputs[1] = (scan % 2 == 1) as i32;
     inputs
 }
 
@@ -55,13 +46,6 @@ fn scan_once(circuit: &[u8], rec: &mut [i32], outs: &mut [i32], scan: u32) {
     scan_of(circuit, rec, outs, &inputs, 65535);
 }
 
-// The scans from one number up to another.
-fn scans(circuit: &[u8], rec: &mut [i32], outs: &mut [i32], from: u32, to: u32) {
-    for scan in from..to {
-        scan_once(circuit, rec, outs, scan);
-    }
-}
-
 // ---- what is shown
 
 // Words on a line.
@@ -73,7 +57,7 @@ fn show_words(rt: &impl Print, words: &[i32]) -> io::Result<()> {
 }
 
 // The name, the scan, the outputs, and the three words of block 1.
-fn show(rt: &impl Print, path: &str, scan: usize, rec: &[i32], outs: &[i32]) -> io::Result<()> {
+fn show(rt: &impl Print, path: &str, scan: u32, rec: &[i32], outs: &[i32]) -> io::Result<()> {
     print!(rt; "{path} scan {scan}")?;
     show_words(rt, outs)?;
     let own = record::words_of(rec, 1);
@@ -84,14 +68,12 @@ fn show(rt: &impl Print, path: &str, scan: usize, rec: &[i32], outs: &[i32]) -> 
 fn played(rt: &impl Print, path: &str, circuit: &[u8], rec: &mut [i32]) -> io::Result<()> {
     let mut outs = [7i32; 28];
     scan::cold_start(circuit, rec);
-    scan_once(circuit, rec, &mut outs, 1);
-    show(rt, path, 1, &rec[..], &outs)?;
-    scan_once(circuit, rec, &mut outs, 2);
-    show(rt, path, 2, &rec[..], &outs)?;
-    scans(circuit, rec, &mut outs, 3, 551);
-    show(rt, path, 550, &rec[..], &outs)?;
-    scan_once(circuit, rec, &mut outs, 551);
-    show(rt, path, 551, &rec[..], &outs)?;
+    for scan in 1..552 {
+        scan_once(circuit, rec, &mut outs, scan);
+        if matches!(scan, 1 | 2 | 550 | 551) {
+            show(rt, path, scan, &rec[..], &outs)?;
+        }
+    }
     let inputs = reading(552, 1001);
     print!(rt; "{path} analog 1001 ")?;
     report::line(rt, scan::latch(circuit, rec, &inputs, 65535))
@@ -127,17 +109,10 @@ fn played_twice(rt: &impl Print, path: &str, circuit: &[u8], rec: &mut [i32]) ->
     played_shortly(rt, path, circuit, rec)
 }
 
-// Room for the longest record. The `ensures` gives only the length, which lending a part of the array needs.
-fn longest() -> [i32; 1364]
-    ensures { 1364 ≡ length result }
-{
-    [0; RECORD]
-}
-
-// And one of n blocks, none above 400.
+// And on one of n blocks, none above 400.
 fn played_with(rt: &impl Print, path: &str, circuit: &[u8], n: usize) -> io::Result<()> {
     if n <= BLOCKS {
-        let mut room = longest();
+        let mut room = [0i32; RECORD];
         played_twice(rt, path, circuit, &mut room[..164 + 3 * n])?;
     }
     Ok(())

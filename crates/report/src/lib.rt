@@ -1,12 +1,13 @@
 // What the programs read and print: a circuit, the four numbers of an answer on one line, words.
 #![tactic(auto)]
 
+ghost use Rattle.std.specs.Prelude.{◌<◌, IfSome};
 ghost use Rattle.std.specs.Io.{ReadsAtMost};
 
 use decoding::Head;
 use refusals::Answer;
-use std::io;
 use std::io::Read;
+use std::{fmt, io};
 
 // The most bytes that a program takes, and one more, so that a longer input shows.
 const MOST: usize = 65536;
@@ -39,75 +40,87 @@ pub fn judged(rt: &impl Print, bytes: &[u8]) -> io::Result<Answer> {
 
 // ---- the series 0BA6: whether a circuit fits, and if not which field stands in the way
 
-// The bytes of a row's field, and those up to its connector.
+// The bytes of a row's field.
 const ROW_FIELD: usize = 8;
 
-const ROW_HEAD: usize = 5;
+// The class of a destination.
+#[derive(Clone, Copy)]
+enum Class {
+    Q,
+    M,
+    AQ,
+    AM,
+}
 
-// The classes of flags among the destinations.
-const TO_M: usize = 2;
-
-const TO_AM: usize = 4;
-
-// The name of a destination, as Q17.
-fn destination(rt: &impl Print, class: usize, k: usize) -> io::Result<()> {
-    if 2 < class {
-        print!(rt; "A")?;
+impl Class {
+    // The class that a byte stands for.
+    fn of(byte: u8) -> Option<Class> {
+        match byte {
+            1 => Some(Class::Q),
+            2 => Some(Class::M),
+            3 => Some(Class::AQ),
+            4 => Some(Class::AM),
+            _ => None,
+        }
     }
-    if class % 2 == 1 {
-        print!(rt; "Q{k}")
-    } else {
-        print!(rt; "M{k}")
+
+    // How many of it the series has.
+    fn most(self) -> usize {
+        let limits = refusals::older();
+        match self {
+            Class::Q => limits.q,
+            Class::M => limits.m,
+            Class::AQ => limits.aq,
+            Class::AM => limits.am,
+        }
     }
 }
 
-// The last one of a class that the series has.
-fn last_of(rt: &impl Print, class: usize) -> io::Result<()> {
-    destination(rt, class, fields::limit_of(refusals::older(), class))
+impl fmt::Display for Class {
+    fn fmt<W: fmt::Write>(&self, f: &mut fmt::Formatter<W>) -> fmt::Result {
+        f.write_str(match self {
+            Class::Q => "Q",
+            Class::M => "M",
+            Class::AQ => "AQ",
+            Class::AM => "AM",
+        })
+    }
 }
 
 // All of a class that the series has, as Q1 to Q16, or AQ1 and AQ2.
-fn all_of(rt: &impl Print, class: usize) -> io::Result<()> {
-    destination(rt, class, 1)?;
-    if fields::limit_of(refusals::older(), class) == 2 {
-        print!(rt; " and ")?;
-    } else {
-        print!(rt; " to ")?;
-    }
-    last_of(rt, class)
+fn all_of(rt: &impl Print, class: Class) -> io::Result<()> {
+    let most = class.most();
+    let between = if most == 2 { "and" } else { "to" };
+    print!(rt; "{class}1 {between} {class}{most}")
 }
 
 // The destination of the row at a place, and which there are.
 fn destination_at(rt: &impl Print, bytes: &[u8], place: usize) -> io::Result<()> {
-    if bytes.len() < ROW_HEAD {
+    let Some([_, _, _, class, number, ..]) = bytes.get(place..) else {
         return Ok(());
-    }
-    if bytes.len() - ROW_HEAD < place {
+    };
+    let Some(class) = Class::of(*class) else {
         return Ok(());
-    }
-    let class = words::byte_at(bytes, place + 3);
-    print!(rt; "its destination is ")?;
-    destination(rt, class, words::byte_at(bytes, place + 4))?;
-    print!(rt; "; 0BA6 has ")?;
+    };
+    print!(rt; "its destination is {class}{number}; 0BA6 has ")?;
     all_of(rt, class)
 }
 
-// The number of the block that begins at a place, 0 where none does.
-fn block_at(offsets: &[usize; 400], place: usize) -> usize {
-    let mut k = 0usize;
-    while k < 400 {
-        if offsets[k] == place {
-            return k + 1;
-        }
-        k += 1;
-    }
-    0
+// The block that begins at a place, from 0.
+fn block_at(offsets: &[usize; 400], place: usize) -> Option<usize>
+    ensures { IfSome result (λ k. k < 400) }
+{
+    offsets.iter().position(|offset| *offset == place)
 }
 
 // The block or the row at a place.
 fn field_at(rt: &impl Print, place: usize, head: Head, offsets: &[usize; 400]) -> io::Result<()> {
     if place < head.start {
-        print!(rt; "block {}", block_at(offsets, place))?;
+        let number = match block_at(offsets, place) {
+            Some(k) => k + 1,
+            None => 0,
+        };
+        print!(rt; "block {number}")?;
     } else {
         print!(rt; "row {}", (place - head.start) / ROW_FIELD + 1)?;
     }
@@ -123,18 +136,19 @@ fn misfit(
     offsets: &[usize; 400],
 ) -> io::Result<()> {
     let place = answer.place;
+    let limits = refusals::older();
     if answer.number == 4 {
-        let (n, most) = (head.n, refusals::older().blocks);
+        let (n, most) = (head.n, limits.blocks);
         return print!(rt; "the header says {n} blocks; 0BA6 has at most {most}");
     }
     field_at(rt, place, head, offsets)?;
     if answer.number == 9 {
         return destination_at(rt, bytes, place);
     }
-    print!(rt; "a connector names a flag above ")?;
-    last_of(rt, TO_M)?;
-    print!(rt; " or ")?;
-    last_of(rt, TO_AM)
+    print!(rt;
+        "a connector names a flag above M{} or AM{}",
+        limits.m, limits.am
+    )
 }
 
 // Whether it fits, in words.
@@ -168,7 +182,8 @@ fn judged_for_0ba6(rt: &impl Print, bytes: &[u8]) -> io::Result<()> {
 
 // ---- what is read
 
-// Reads until the buffer is full or the input ends, and answers how many bytes stand at its start.
+// Reads until the buffer is full or the input ends, and answers how many bytes stand at its start. By hand: std's `read_exact` refuses a
+// shorter input, and does not tell how much of it there was.
 pub fn read_full(input: &mut impl Read, buffer: &mut [u8]) -> io::Result<usize>
     ensures { ReadsAtMost result buffer.new }
 {
@@ -183,13 +198,19 @@ pub fn read_full(input: &mut impl Read, buffer: &mut [u8]) -> io::Result<usize>
     Ok(done)
 }
 
-// Reads a circuit to its end and prints the answer to it, or that for the series.
-pub fn judged_from(rt: &impl Print, input: &mut impl Read, for_0ba6: bool) -> io::Result<()> {
+// What a circuit is judged for: our limits, or those of the series 0BA6.
+#[derive(Clone, Copy)]
+pub enum Series {
+    Ours,
+    Older,
+}
+
+// Reads a circuit to its end and prints the answer to it for a series.
+pub fn judged_from(rt: &impl Print, input: &mut impl Read, series: Series) -> io::Result<()> {
     let mut bytes = [0u8; ROOM];
     let n = read_full(input, &mut bytes)?;
-    if for_0ba6 {
-        return judged_for_0ba6(rt, &bytes[..n]);
+    match series {
+        Series::Ours => judged(rt, &bytes[..n]).map(drop),
+        Series::Older => judged_for_0ba6(rt, &bytes[..n]),
     }
-    judged(rt, &bytes[..n])?;
-    Ok(())
 }

@@ -1,20 +1,17 @@
-// What a stairway switch becomes: kind 18. Ta is the ticks run; T, T! and T!L are `t`, `warning` and `dark`.
+// What a stairway switch becomes: kind 18. T! and T!L are `warning` and `dark`.
 #![tactic(auto)]
 
 ghost use Rattle.std.specs.Prelude.{◌≡◌, ◌≤◌, ◌<◌, ◌^◌};
 ghost use Rattle.rules.specs.Rules.{trg_and_running, stands, is_dark, dims, stairway_switch};
 
 use kinds::Ticks;
-use rules::BlockWords;
+use rules::{BlockWords, Run};
 
 // What it remembers: Trg, plus 2 while it runs.
 fn trg_and_running(trg: bool, running: bool) -> i32
     ensures { result ≡ trg_and_running trg running }
 {
-    if running {
-        return if trg { 3 } else { 2 };
-    }
-    words::word_of(trg)
+    trg as i32 + 2 * running as i32
 }
 
 // Its words: Q, Trg, whether it runs, Ta.
@@ -22,58 +19,54 @@ fn stood(q: bool, trg: bool, running: bool, ta: u32) -> BlockWords
     requires { ta < 2 ^ 31 }
     ensures { result ≡ stands q trg running ta }
 {
-    rules::three_of(
-        words::word_of(q),
-        trg_and_running(trg, running),
-        words::word_of_count(ta),
-    )
-}
-
-// Whether the light is out as a warning.
-fn is_dark(ta: Ticks, t: Ticks, warning: Ticks, dark: Ticks) -> bool
-    requires { (t.0 < 2 ^ 31) × (warning.0 ≤ t.0) × (dark.0 ≤ t.0) }
-    ensures { result ≡ is_dark ta t warning dark }
-{
-    let from = t.0 - warning.0;
-    (from <= ta.0) & (ta.0 < from + dark.0)
-}
-
-// Running, with Trg 0: it ends at T.
-fn dimmed(ta: Ticks, t: Ticks, warning: Ticks, dark: Ticks) -> BlockWords
-    requires { (ta.0 < 2 ^ 31) × (t.0 < 2 ^ 31) × (warning.0 ≤ t.0) × (dark.0 ≤ t.0) }
-    ensures { result ≡ dims ta t warning dark }
-{
-    if ta.0 == t.0 {
-        return stood(false, false, false, 0);
+    BlockWords {
+        output: q as i32,
+        remembered: trg_and_running(trg, running),
+        number: ta as i32,
     }
-    stood(!is_dark(ta, t, warning, dark), false, true, ta.0)
+}
+
+// Its times: T that runs, and within it T! and T!L.
+#[derive(Clone, Copy)]
+pub struct Times {
+    pub run: Run,
+    pub warning: Ticks,
+    pub dark: Ticks,
+    pub ghost within: { (warning.0 ≤ run.t.0) × (dark.0 ≤ run.t.0) },
+}
+
+impl Times {
+    // Whether the light is out as a warning.
+    fn is_dark(self, ta: Ticks) -> bool
+        ensures { result ≡ is_dark ta self.run.t self.warning self.dark }
+    {
+        let from = self.run.t.0 - self.warning.0;
+        (from <= ta.0) & (ta.0 < from + self.dark.0)
+    }
+
+    // Running, with Trg 0: it ends at T.
+    fn dimmed(self, ta: Ticks) -> BlockWords
+        requires { ta.0 < 2 ^ 31 }
+        ensures { result ≡ dims ta self.run.t self.warning self.dark }
+    {
+        if ta.0 == self.run.t.0 {
+            stood(false, false, false, 0)
+        } else {
+            stood(!self.is_dark(ta), false, true, ta.0)
+        }
+    }
 }
 
 // Kind 18, stairway switch.
-pub fn stairway_switch(
-    trg: bool,
-    was: bool,
-    ran: bool,
-    ta: Ticks,
-    t: Ticks,
-    warning: Ticks,
-    dark: Ticks,
-    e: Ticks,
-) -> BlockWords
-    requires { (ta.0 < 2 ^ 31) × (t.0 < 2 ^ 31) × (warning.0 ≤ t.0) × (dark.0 ≤ t.0) × (e.0 < 2 ^ 31) }
-    ensures { result ≡ stairway_switch trg was ran ta t warning dark e }
+#[tactic(auto, unfolding(rules::specs::Rules::stairway_switch))]
+pub fn stairway_switch(trg: bool, was: bool, ran: bool, times: Times) -> BlockWords
+    ensures { result ≡ stairway_switch trg was ran times.run.ta times.run.t times.warning times.dark times.run.e }
 {
-    if trg {
-        if was {
-            return stood(ran, true, ran, 0);
-        }
-        return stood(true, true, true, 0);
+    match (trg, was, ran) {
+        (true, false, _) => stood(true, true, true, 0),
+        (true, true, _) => stood(ran, true, ran, 0),
+        (false, _, false) => stood(false, false, false, 0),
+        (false, true, true) => times.dimmed(Ticks(0)),
+        (false, false, true) => times.dimmed(times.run.grown()),
     }
-    if ran {
-        if was {
-            return dimmed(Ticks(0), t, warning, dark);
-        }
-        return dimmed(rules::grown_to(ta, t, e), t, warning, dark);
-    }
-    stood(false, false, false, 0)
 }

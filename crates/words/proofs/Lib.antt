@@ -6,3 +6,4 @@ pub mod Written
 pub mod Complement
 pub mod Bits
 pub mod Masks
+pub mod Ordered
