@@ -25,8 +25,7 @@ pub use sound::{are_within, is_sound, is_within};
 pub fn word(rec: &[i32], place: Place) -> i32
     ensures { result ≡ word rec.now (said place) }
 {
-    let i = place.index();
-    if i < rec.len() { rec[i] } else { 0 }
+    rec.get(place.index()).copied().unwrap_or(0)
 }
 
 // Stores a word at a place; nothing past the end.
@@ -78,11 +77,9 @@ pub fn elapsed_of(rec: &[i32]) -> Ticks
 // ---- the three words of a block
 
 // Those of block k.
-pub fn words_of(rec: &[i32], k: usize) -> BlockWords
-    requires { k ≤ 400 }
+pub fn words_of(rec: &[i32], k: u16) -> BlockWords
     ensures { result ≡ words_of rec.now k }
 {
-    let k = k as u16;
     BlockWords {
         output: word(rec, Place::Output(k)),
         remembered: word(rec, Place::Remembered(k)),
@@ -91,11 +88,9 @@ pub fn words_of(rec: &[i32], k: usize) -> BlockWords
 }
 
 // Stores those of block k.
-pub fn put_words(rec: &mut [i32], k: usize, w: BlockWords)
-    requires { k ≤ 400 }
+pub fn put_words(rec: &mut [i32], k: u16, w: BlockWords)
     ensures { rec.new ≡ put_words rec.old k w }
 {
-    let k = k as u16;
     put(rec, Place::Output(k), w.output);
     put(rec, Place::Remembered(k), w.remembered);
     put(rec, Place::Number(k), w.number);

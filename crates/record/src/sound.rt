@@ -61,13 +61,12 @@ fn fixed_fit(rec: &[i32], n: usize) -> bool
 
 // Whether the three words of block k, which stands at a place of the bytes, are in their ranges.
 #[tactic(auto, unfolding(lines::specs::Lines::line_of, crate::specs::Places::index_of, crate::specs::Written::block_fits))]
-fn block_fits(bytes: &[u8], at: usize, rec: &[i32], k: usize) -> bool
-    requires { Lies bytes.now at × (k ≤ 400) × (size_of k ≤ length rec.now) }
+fn block_fits(bytes: &[u8], at: usize, rec: &[i32], k: u16) -> bool
+    requires { Lies bytes.now at × (size_of k ≤ length rec.now) }
     ensures { result ≡ block_fits (line_of (block_at bytes.now at)) rec.now k }
 {
     let kind = lines::kind_at(bytes, at);
     let time = lines::time_at(bytes, at);
-    let k = k as u16;
     let output = kind.output_fits(held(rec, Place::Output(k)));
     let remembered = kind.remembered_fits(held(rec, Place::Remembered(k)));
     let number = kind.number_fits(time, held(rec, Place::Number(k)));
@@ -81,7 +80,7 @@ fn blocks_fit(plan: &Plan, rec: &[i32]) -> bool
 {
     let mut ok = true;
     for d in 0..plan.n {
-        ok &= block_fits(plan.bytes, plan.offsets[d], rec, d + 1);
+        ok &= block_fits(plan.bytes, plan.offsets[d], rec, (d + 1) as u16);
     }
     ok
 }

@@ -114,8 +114,8 @@ fn values_of(rec: &[i32], line: &Line) -> [i32; 2]
 
 // What the three words of block k become.
 #[tactic(auto, unfolding(crate::specs::Steps::becomes))]
-fn becomes(rec: &[i32], k: usize, line: &Line) -> BlockWords
-    requires { Fine (line_said line.now) × Sixteen (values_of rec.now (line_said line.now)) × (k ≤ 400) }
+fn becomes(rec: &[i32], k: u16, line: &Line) -> BlockWords
+    requires { Fine (line_said line.now) × Sixteen (values_of rec.now (line_said line.now)) }
     ensures { result ≡ becomes_of rec.now k (line_said line.now) }
 {
     let bits = bits_of(rec, line);
@@ -126,8 +126,8 @@ fn becomes(rec: &[i32], k: usize, line: &Line) -> BlockWords
 }
 
 // Works out block k: its three words, and no other.
-pub fn step(rec: &mut [i32], k: usize, line: &Line)
-    requires { Fine (line_said line.now) × Sixteen (values_of rec.old (line_said line.now)) × (k ≤ 400) }
+pub fn step(rec: &mut [i32], k: u16, line: &Line)
+    requires { Fine (line_said line.now) × Sixteen (values_of rec.old (line_said line.now)) }
     ensures { rec.new ≡ put_words rec.old k (becomes_of rec.old k (line_said line.now)) }
 {
     let w = becomes(rec, k, line);
@@ -139,7 +139,7 @@ fn step_at(plan: &Plan, rec: &mut [i32], d: usize)
     requires { Next plan.now.bytes.now plan.now.offsets.now d rec.old × (d < plan.now.n) }
     ensures { rec.new ≡ put_words rec.old (d + 1) (becomes_of rec.old (d + 1) (line_of (block_at plan.now.bytes.now (get_or plan.now.offsets.now d 0)))) }
 {
-    step(rec, d + 1, &plan.line(d));
+    step(rec, (d + 1) as u16, &plan.line(d));
 }
 
 // Works out the m blocks behind the first d.
