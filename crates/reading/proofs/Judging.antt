@@ -6,7 +6,7 @@ use Prim.Native.Nat.{ℕ, ◌+◌, ◌-◌, ◌*◌, ◌≤◌}
 use native.Mathlib.Omega.{arith}
 use lib.ListN.{length, drop}
 use lib.Seq.{sets}
-use Rattle.digits.specs.declared.Number.{Number}
+use Rattle.digits.specs.Numbers.{Number}
 use Rattle.digits.specs.Numbers.{number_of}
 use Rattle.kept.specs.Keeps.{field}
 use Rattle.rows.specs.declared.Shape.{Shape}

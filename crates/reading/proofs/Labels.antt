@@ -7,7 +7,7 @@ use native.Mathlib.Omega.{arith}
 use lib.Dec.{eqb, leb}
 use lib.ListN.{length}
 use borrow.Author.Tests.{eq-eqb, ne_eqb, le-leb, lt-leb, leb-true}
-use Rattle.digits.specs.declared.Number.{Number}
+use Rattle.digits.specs.Numbers.{Number}
 use Rattle.digits.specs.Numbers.{digits, value, size_in, has_minus, number_of}
 use Rattle.rows.specs.Columns.{label_fits}
 use Rattle.reading.specs.declared.Label.{Label}

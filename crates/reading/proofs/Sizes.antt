@@ -8,7 +8,7 @@ use lib.ListN.{length, drop, length-append, length-drop}
 use borrow.Author.Tests.{eq-eqb, ne_eqb}
 use Rattle.words.specs.Bytes.{bytes_of}
 use Rattle.words.proofs.Written.{length-bytes}
-use Rattle.digits.specs.declared.Number.{Number}
+use Rattle.digits.specs.Numbers.{Number}
 use Rattle.kept.specs.Keeps.{joined, field}
 use Rattle.rows.specs.declared.Shape.{Shape}
 use Rattle.rows.specs.Text.{TextRow}

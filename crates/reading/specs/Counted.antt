@@ -1,7 +1,7 @@
 -- What the passes over the rows carry. Not part of what a reader has to believe.
 use Rattle.std.specs.Prelude.{ℕ, ◌+◌, ◌-◌, ◌≤◌, ◌<◌, ◌≡◌, Bool, true, cond, List, ltb, length, get_or}
 use Rattle.std.proofs.lemmas.List.Edits.{sets}
-use Rattle.digits.specs.declared.Number.{Number}
+use Rattle.digits.specs.Numbers.{Number}
 use Rattle.digits.specs.Numbers.{number_of}
 use Rattle.rows.specs.Text.{split_at, text_row, TextRow, rows_of}
 use Rattle.rows.specs.Columns.{label_fits, label_field, row_number, fields_of, is_block}

@@ -9,7 +9,7 @@ use lib.Dec.{eqb, leb}
 use lib.ListN.{length, drop, drop_of_length-le}
 use lib.Seq.{drop-cons}
 use borrow.Author.Tests.{leb-true}
-use Rattle.digits.specs.declared.Number.{Number}
+use Rattle.digits.specs.Numbers.{Number}
 use Rattle.digits.specs.Numbers.{digits, value, size_in, has_minus, number_of, value_of}
 use Rattle.rows.specs.Columns.{below_of, above_of, said_in, packed, widths, numbers_fit, numbers_bytes, nth}
 use Rattle.rows.specs.Widths.{width_at}

@@ -15,7 +15,7 @@ use mir.Val.{of_z}
 use Rattle.words.specs.Bytes.{bytes_of}
 use Rattle.words.specs.Signed.{minus}
 use Rattle.words.proofs.Masks.{low_byte}
-use Rattle.digits.specs.declared.Number.{Number}
+use Rattle.digits.specs.Numbers.{Number}
 use Rattle.digits.specs.Numbers.{value_of}
 use Rattle.rows.specs.Columns.{said_in, packed, widths, numbers_bytes, nth}
 use Rattle.rows.specs.Widths.{width_at}

@@ -9,7 +9,7 @@ use lib.Dec.{eqb, ltb}
 use lib.ListN.{length, get_or, set, take, drop, length-append, length-set, length-map, get_or-append}
 use lib.Seq.{get_or-set_same, get_or-set_other, get_or_at}
 use borrow.Author.Tests.{ltb-true, ltb-false, lt-ltb, eqb-true, eqb-false, eq-eqb, ne_eqb}
-use Rattle.cells.specs.declared.Cell.{Cell}
+use Rattle.cells.specs.Cells.{Cell}
 use Rattle.cells.specs.Cells.{starts, ending, ending_size, plain_size, quoted_size, finish, closed, cell_at, undouble, content}
 use Rattle.cells.proofs.Laws.{ending_at, cell-quoted, cell-plain}
 use Rattle.cells.proofs.Within.{Within, cell-within}
