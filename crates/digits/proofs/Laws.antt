@@ -16,14 +16,6 @@ use Rattle.std.specs.Prelude.{◌&&◌}
 use Rattle.std.specs.Prelude.{Option, Some, None}
 use Rattle.std.proofs.lemmas.List.{take_rest}
 
-pub digit-below : (x : ℕ) → x < 48 → false ≡ digit x
-unfolding digit
-digit-below x h = rw (lt-leb _ _ h)
-
-pub digit-from : (x : ℕ) → 48 ≤ x → leb x 57 ≡ digit x
-unfolding digit
-digit-from x h = rw (le-leb _ _ h)
-
 pub digit-least : (x : ℕ) → digit x ≡ true → 48 ≤ x
 unfolding digit
 digit-least x e = by (leb 48 x) refl

@@ -20,9 +20,6 @@ width-most n =
     (at_most (ltb n 10000000) 7 _ 10 (omega arith)
     (at_most (ltb n 100000000) 8 _ 10 (omega arith) (at_most (ltb n 1000000000) 9 10 10 (omega arith) (omega arith)))))))))
 
-pub decimal-most : (n : ℕ) → length (decimal n) ≤ 10
-decimal-most n = omega (arith, width-most n, decimal-length n)
-
 -- the number is not below 0, or a minus stands before its size
 pub signed_from : (z : ℤ) → pos 0 ≤ℤ z → signed_decimal z ≡ decimal (unsigned_abs z)
 unfolding signed_decimal

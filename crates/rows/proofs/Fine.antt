@@ -17,7 +17,7 @@ use Rattle.kept.specs.Keeps.{Match, Labelled, field, label_bytes}
 use Rattle.kept.proofs.Lists.{match-length}
 use Rattle.digits.specs.Numbers.{decimal, signed_decimal}
 use Rattle.digits.proofs.Signed.{Says, count-said, signed-said}
-use Rattle.rows.specs.declared.Shape.{Shape}
+use Rattle.rows.specs.Shape.{Shape}
 use Rattle.rows.specs.Columns.{below_of, above_of, said_in, packed, numbers_fit, numbers_bytes, block_shape, output_shape, says, shape_by, nth, shape_of, numbers_in, columns_of, widths_of, label_fits, mark_said, label_field, mark_of, label_of, is_shaped, is_fit, row_faults, row_number, fields_by, fields_of, is_block, widths, connector_widths}
 use Rattle.rows.specs.Writing.{label_cells}
 use Rattle.rows.specs.Entries.{Entry, packed_all, entry_bytes, entry_cells, FitsIn, Shaped, block, output, Fine}

@@ -16,7 +16,7 @@ use Rattle.refusals.proofs.Tests.{none-holds}
 use Rattle.kept.specs.Keeps.{field}
 use Rattle.digits.specs.Numbers.{Number}
 use Rattle.digits.specs.Numbers.{digits, value, size_in, has_minus, number_of, value_of}
-use Rattle.rows.specs.declared.Shape.{Shape}
+use Rattle.rows.specs.Shape.{Shape}
 use Rattle.rows.specs.Text.{TextRow}
 use Rattle.rows.specs.Columns.{below_of, above_of, said_in, widths, widths_of, numbers_fit, numbers_bytes, block_shape, output_shape, no_shape, says, shape_by, nth, shape_of, numbers_in, columns_of, label_fits, mark_said, label_field, mark_of, label_of, is_shaped, is_fit, row_faults, row_number, fields_by, fields_of}
 use Rattle.rows.specs.Again.{Sound, BlockContent, RowFields, block, labelled, output, RowsAreFields}

@@ -9,7 +9,7 @@ use Rattle.refusals.specs.Faults.{Fault, lowest, ◌when◌}
 use Rattle.digits.specs.Numbers.{Number}
 use Rattle.digits.specs.Numbers.{number_of, value_of}
 use Rattle.kept.specs.Keeps.{field}
-use Rattle.rows.specs.declared.Shape.{Shape}
+use Rattle.rows.specs.Shape.{Shape}
 use Rattle.rows.specs.Text.{TextRow}
 
 -- ---- the numbers of a field, by how many bytes each takes

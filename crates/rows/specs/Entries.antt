@@ -8,7 +8,7 @@ use Rattle.connectors.specs.Connectors.{Connector}
 use Rattle.decoding.specs.Decoded.{Block, Row, Circuit}
 use Rattle.kept.specs.Keeps.{Match, Labelled, field, label_bytes}
 use Rattle.digits.specs.Numbers.{decimal, signed_decimal}
-use Rattle.rows.specs.declared.Shape.{Shape}
+use Rattle.rows.specs.Shape.{Shape}
 use Rattle.rows.specs.Columns.{below_of, above_of, packed, widths_of, block_shape, output_shape}
 use Rattle.rows.specs.Writing.{label_cells, written}
 

@@ -1,3 +1,4 @@
+pub mod Shape
 pub mod Text
 pub mod Columns
 pub mod Reading

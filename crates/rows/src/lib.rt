@@ -3,59 +3,37 @@
 
 ghost use Rattle.std.specs.Prelude.{◌≡◌, ◌+◌, ◌*◌, ◌≤◌, ◌<◌};
 ghost use Rattle.kinds.specs.Table.{Lent};
-ghost use Rattle.rows.specs.Columns.{block_shape, output_shape, no_shape, below_of, above_of};
+ghost use Rattle.rows.specs.Shape.{known_shape};
+ghost use Rattle.rows.specs.Columns.{block_shape, output_shape, below_of, above_of};
 ghost use Rattle.rows.specs.Widths.{width_at};
 
-use kinds::KindTable;
+mod shape;
 
-// Whether tag and kind are known; the field's tag; how many connectors and parameters it has; whether a label may follow.
-#[derive(Clone, Copy)]
-pub struct Shape {
-    pub known: bool,
-    pub tag: u8,
-    pub inputs: usize,
-    pub parameters: usize,
-    pub labelled: bool,
-}
+use kinds::KindTable;
+pub use shape::Shape;
 
 // The shape of a block of a kind.
+#[tactic(auto, unfolding(crate::specs::Columns::block_shape))]
 pub fn block_shape(kinds: &KindTable, kind: usize) -> Shape
     requires { Lent kinds.now kind }
-    ensures { (result ≡ block_shape kind) × (result.inputs ≤ 4) × (2 * result.inputs + result.parameters ≤ 11) }
+    ensures { (known_shape result ≡ block_shape kind) × (result.inputs ≤ 4) × (2 * result.inputs + result.parameters ≤ 11) }
 {
-    let digitals = kinds::digital_inputs(kinds, kind);
-    let analogs = kinds::analog_inputs(kinds, kind);
-    let parameters = kinds::parameters(kinds, kind);
     Shape {
-        known: true,
         tag: 0x10,
-        inputs: digitals + analogs,
-        parameters,
+        inputs: kinds::digital_inputs(kinds, kind) + kinds::analog_inputs(kinds, kind),
+        parameters: kinds::parameters(kinds, kind),
         labelled: true,
     }
 }
 
 // The shape of an output row.
+#[tactic(auto, unfolding(crate::specs::Columns::output_shape))]
 pub fn output_shape() -> Shape
-    ensures { result ≡ output_shape }
+    ensures { known_shape result ≡ output_shape }
 {
     Shape {
-        known: true,
         tag: 0x30,
         inputs: 1,
-        parameters: 0,
-        labelled: false,
-    }
-}
-
-// That of no row.
-pub fn no_shape() -> Shape
-    ensures { result ≡ no_shape }
-{
-    Shape {
-        known: false,
-        tag: 0,
-        inputs: 0,
         parameters: 0,
         labelled: false,
     }
@@ -70,41 +48,41 @@ pub fn numbers_in(inputs: usize, parameters: usize) -> usize
 }
 
 // How many bytes number j behind the tag takes, from 0.
+#[tactic(auto, unfolding(crate::specs::Widths::width_at))]
 pub fn width_at(inputs: usize, j: usize) -> usize
     requires { inputs ≤ 4 }
     ensures { result ≡ width_at inputs j }
 {
     if j < 2 {
-        return 1;
+        1
+    } else if 2 + 2 * inputs <= j {
+        4
+    } else if j & 1 == 0 {
+        1
+    } else {
+        2
     }
-    if 2 + 2 * inputs <= j {
-        return 4;
-    }
-    if j & 1 == 0 {
-        return 1;
-    }
-    2
 }
 
 // How far below 0 a number of so many bytes goes.
+#[tactic(auto, unfolding(crate::specs::Columns::below_of))]
 pub fn below_of(width: usize) -> u32
     ensures { result ≡ below_of width }
 {
-    if width == 4 {
-        return 2147483648;
+    match width {
+        4 => 2147483648,
+        _ => 0,
     }
-    0
 }
 
 // How far above 0.
+#[tactic(auto, unfolding(crate::specs::Columns::above_of))]
 pub fn above_of(width: usize) -> u32
     ensures { result ≡ above_of width }
 {
-    if width == 4 {
-        return 2147483647;
+    match width {
+        4 => 2147483647,
+        2 => 65535,
+        _ => 255,
     }
-    if width == 2 {
-        return 65535;
-    }
-    255
 }

@@ -10,15 +10,14 @@ use lib.ListN.{length, drop, drop_of_length-le}
 use lib.Seq.{drop-cons}
 use borrow.Author.Tests.{leb-true}
 use Rattle.digits.specs.Numbers.{Number}
-use Rattle.digits.specs.Numbers.{digits, value, size_in, has_minus, number_of, value_of}
+use Rattle.std.specs.Prelude.{Option, Some, None}
+use Rattle.std.specs.Option.{is_some}
+use Rattle.digits.specs.declared.Number.{Number as Handed}
+use Rattle.digits.specs.Numbers.{number_read, digits, value, size_in, has_minus, number_of, value_of}
 use Rattle.rows.specs.Columns.{below_of, above_of, said_in, packed, widths, numbers_fit, numbers_bytes, nth}
 use Rattle.rows.specs.Widths.{width_at}
 use Rattle.rows.proofs.Widths.{width_is, widths-length, total}
 use Rattle.splitting.specs.Found.{text_in, Says}
-
-pub said-is : (w b a : ℕ) (l : List ℕ) (r : Number) → b ≡ below_of w → a ≡ above_of w → r ≡ number_of b a l → r ≡ said_in w l
-unfolding said_in
-said-is w b a l r p q e = e ∙ rw (p, q)
 
 -- a held cell says what the cell says
 pub said_same : (s starts sizes : List ℕ) (cells : List (List ℕ)) (w j : ℕ) (n : Number) → Says s starts sizes cells → j < length cells → j < 16
@@ -129,3 +128,8 @@ module _ (i p j : ℕ) (h : 2 + 2 * i + p ≤ j) (cells : List (List ℕ)) where
 
   pub bytes-done : numbers_bytes (drop j (widths i p)) cells ≡ []
   bytes-done = rw widths-out (bytes-nil cells)
+
+-- whether there is one
+pub is_said : (r : Option Handed) (b : Bool) → is_some r ≡ b → (number_read r).ok ≡ b
+is_said None b e = e
+is_said (Some n) b e = e

@@ -2,33 +2,22 @@
 use mathlib.Core.Path.{◌≡◌, refl}
 use mathlib.Core.Bool.{true, false}
 use mathlib.Core.List.{List, []}
-use Prim.Native.Nat.{ℕ, ◌+◌, ◌*◌, ◌≤◌, ◌<◌}
+use Prim.Native.Nat.{ℕ, ◌<◌}
 use native.Mathlib.Omega.{arith}
 use lib.ListN.{length, get_or-eq_default}
 use borrow.Author.Tests.{eq-eqb, ne_eqb}
 use Rattle.digits.specs.Numbers.{Number}
 use Rattle.digits.specs.Numbers.{digits, size_in, has_minus, number_of}
 use Rattle.kinds.specs.Kinds.{known}
-use Rattle.rows.specs.declared.Shape.{Shape}
+use Rattle.std.specs.Prelude.{None}
+use Rattle.rows.specs.Shape.{shape_said}
 use Rattle.rows.specs.Columns.{said_in, block_shape, output_shape, no_shape, says, shape_by, shape_of, nth}
 use Rattle.splitting.specs.Found.{text_in, Says}
 use Rattle.splitting.proofs.Numbers.{said_same}
 
-pub record Small (sh : Shape) : Type 0 where
-  pub connectors : sh.inputs ≤ 4
-  pub numbers : 2 * sh.inputs + sh.parameters ≤ 11
-
-pub no-small : (sh : Shape) → sh ≡ no_shape → Small sh
-unfolding no_shape
-no-small sh e = rw e (record { connectors = omega arith; numbers = omega arith })
-
-pub output-small : (sh : Shape) → sh ≡ output_shape → Small sh
-unfolding output_shape
-output-small sh e = rw e (record { connectors = omega arith; numbers = omega arith })
-
 module _ (tag kind : Number) where
-  pub no-tag : tag.ok ≡ false → no_shape ≡ shape_by tag kind
-  unfolding shape_by says
+  pub no-tag : tag.ok ≡ false → shape_said None ≡ shape_by tag kind
+  unfolding shape_by says no_shape
   no-tag e = rw e
 
   module _ (ok : tag.ok ≡ true) where
@@ -37,17 +26,17 @@ module _ (tag kind : Number) where
     output-tag e = rw (ok, eq-eqb tag.size 0x30 e)
 
     module _ (n : tag.size ≡ 0x30 → ⊥) where
-      pub other_tag : (tag.size ≡ 0x10 → ⊥) → no_shape ≡ shape_by tag kind
-      unfolding shape_by says
+      pub other_tag : (tag.size ≡ 0x10 → ⊥) → shape_said None ≡ shape_by tag kind
+      unfolding shape_by says no_shape
       other_tag m = rw (ok, ne_eqb tag.size 0x30 n, ne_eqb tag.size 0x10 m)
 
       module _ (e : tag.size ≡ 0x10) where
-        pub no_kind : kind.ok ≡ false → no_shape ≡ shape_by tag kind
-        unfolding shape_by says
+        pub no_kind : kind.ok ≡ false → shape_said None ≡ shape_by tag kind
+        unfolding shape_by says no_shape
         no_kind q = rw (ok, ne_eqb tag.size 0x30 n, eq-eqb tag.size 0x10 e, q)
 
-        pub other-kind : kind.ok ≡ true → known kind.size ≡ false → no_shape ≡ shape_by tag kind
-        unfolding shape_by says
+        pub other-kind : kind.ok ≡ true → known kind.size ≡ false → shape_said None ≡ shape_by tag kind
+        unfolding shape_by says no_shape
         other-kind q k = rw (ok, ne_eqb tag.size 0x30 n, eq-eqb tag.size 0x10 e, q, k)
 
         pub block-kind : kind.ok ≡ true → known kind.size ≡ true → block_shape kind.size ≡ shape_by tag kind
