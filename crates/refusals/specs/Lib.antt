@@ -1,4 +1,5 @@
 pub mod Faults
+pub mod Refusals
 pub mod Stages
 pub mod Limited
 pub mod Answers

@@ -3,7 +3,116 @@
 
 ghost use Rattle.std.specs.Prelude.{◌≡◌};
 ghost use Rattle.refusals.specs.Limited.{ours as ours_of, older as older_of};
-ghost use Rattle.refusals.specs.Answers.{refused_at, accepted_with};
+ghost use Rattle.refusals.specs.Answers.{refused_at, accepted_with, answer_of};
+ghost use Rattle.refusals.specs.Refusals.{number_of};
+
+// Why something is refused.
+#[derive(Clone, Copy, PartialEq, Eq)]
+pub enum Refusal {
+    // Bytes of a circuit, the field's first byte being the place.
+    CutShort,
+    TagOrLength,
+    Version,
+    NumberOfBlocks,
+    KindOrOption,
+    Connector,
+    OwnOrLaterBlock,
+    Parameter,
+    Destination,
+    IndexUsedTwice,
+    SurplusBytes,
+    // A call on a record.
+    RecordLength,
+    RecordNotSound,
+    WrongPhase,
+    InputWords,
+    OutputWords,
+    // Rows, and what they are written to.
+    Quote,
+    TagKindOrColumns,
+    NumberOrLabel,
+    NoRoom,
+    TooManyBlocks,
+}
+
+impl Refusal {
+    // Its number.
+    pub fn number(self) -> usize
+        ensures { result ≡ number_of self }
+    {
+        match self {
+            Refusal::CutShort => 1,
+            Refusal::TagOrLength => 2,
+            Refusal::Version => 3,
+            Refusal::NumberOfBlocks => 4,
+            Refusal::KindOrOption => 5,
+            Refusal::Connector => 6,
+            Refusal::OwnOrLaterBlock => 7,
+            Refusal::Parameter => 8,
+            Refusal::Destination => 9,
+            Refusal::IndexUsedTwice => 10,
+            Refusal::SurplusBytes => 11,
+            Refusal::RecordLength => 20,
+            Refusal::RecordNotSound => 21,
+            Refusal::WrongPhase => 22,
+            Refusal::InputWords => 23,
+            Refusal::OutputWords => 24,
+            Refusal::Quote => 30,
+            Refusal::TagKindOrColumns => 31,
+            Refusal::NumberOrLabel => 32,
+            Refusal::NoRoom => 33,
+            Refusal::TooManyBlocks => 34,
+        }
+    }
+
+    // It, of the field at a place.
+    pub fn at(self, place: usize) -> Refused
+        ensures { result ≡ record { refusal = self; place = place } }
+    {
+        Refused {
+            refusal: self,
+            place,
+        }
+    }
+}
+
+// A refusal, and its place: 0 where it is of no field.
+#[derive(Clone, Copy, PartialEq, Eq)]
+pub struct Refused {
+    pub refusal: Refusal,
+    pub place: usize,
+}
+
+impl From<Refusal> for Refused {
+    ghost from_gives = { λ refusal refused. refused ≡ record { refusal = refusal; place = 0 } };
+
+    fn from(refusal: Refusal) -> Self {
+        Refused { refusal, place: 0 }
+    }
+}
+
+impl From<Result<(usize, usize), Refused>> for Answer {
+    ghost from_gives = { λ judged answer. answer ≡ answer_of judged };
+
+    fn from(judged: Result<(usize, usize), Refused>) -> Self {
+        match judged {
+            Ok((first, second)) => Answer {
+                number: 0,
+                place: 0,
+                first,
+                second,
+            },
+            Err(refused) => Answer {
+                number: refused.refusal.number(),
+                place: refused.place,
+                first: 0,
+                second: 0,
+            },
+        }
+    }
+}
+
+
 
 // The most blocks, and the greatest number of Q, AQ, M and AM.
 #[derive(Clone, Copy)]
