@@ -1,6 +1,6 @@
 -- Laws of a block's kind, inputs, parameters and index. Assumes nothing.
-use mathlib.Core.Path.{◌≡◌, refl, sym, ap, ◌∙◌, subst}
-use mathlib.Core.Bool.{Bool, true, false, not, ◌&&◌, cond}
+use mathlib.Core.Path.{◌≡◌, refl, sym, ap, ap₂, ◌∙◌, subst}
+use mathlib.Core.Bool.{Bool, true, false, not, ◌&&◌, ◌||◌, cond, false≢true}
 use mathlib.Core.List.{List, []}
 use Prim.Native.Nat.{ℕ, zero, suc, ◌+◌, ◌*◌, ◌≤◌, ◌<◌}
 use native.Mathlib.Nat.{le_of_suc-le-suc}
@@ -12,12 +12,25 @@ use borrow.Author.Tests.{eq-eqb, ne_eqb, lt-leb, eqb-true, ltb-true, not-false}
 use Rattle.words.proofs.Bounds.{and-true}
 use Rattle.words.specs.Signed.{Between}
 use Rattle.kinds.specs.Kinds.{Kind, kinds, kind_of, known, content_length, parameter, ranges_fit, settings_fit, in_order, allowed, scaled, timed, indexed, chosen}
-use Rattle.kinds.specs.Table.{kinds_table, rows, Lent}
+use Rattle.kinds.specs.Table.{rows}
+use Rattle.kinds.specs.declared.kind.Kind.{Kind as Code}
+use Rattle.kinds.specs.declared.kind.Kind.TheVariants.{And, AndEdge, Nand, NandEdge, Or, Nor, Xor, Not, OnDelay, OffDelay, LatchingRelay, ShiftRegister, ThresholdTrigger, Comparator, Multiplexer, DifferentialTrigger, UpDownCounter, StairwaySwitch, Amplifier}
+use Rattle.kinds.specs.contracts.kind.Kind.{the_type as codes}
+use Rattle.kinds.specs.Codes.{byte_of}
+use Rattle.kinds.proofs.Codes.{known-byte}
+use denote.Enum.Bare.{sameb}
 use Rattle.kinds.proofs.Allowed.{param_in}
 use Rattle.kinds.proofs.Rows.{each-kind, small-kind}
-use Rattle.refusals.specs.Stages.{opening, among_rows}
+use Rattle.refusals.specs.declared.Refusal.{Refusal}
+use Rattle.refusals.specs.Refusals.{number_of}
+use Rattle.refusals.proofs.Numbers.{number-above}
+use Rattle.refusals.specs.declared.Stage.{Stage}
+use Rattle.refusals.specs.declared.Stage.TheVariants.{Opening, AmongBlocks, AfterBlock, AmongRows, Ended}
+use Rattle.refusals.specs.contracts.Stage.{the_type as stages}
+use Rattle.refusals.specs.Stages.{opening, among_rows, stage_of}
 use Rattle.refusals.specs.Faults.{lowest}
 use Rattle.refusals.specs.declared.Limits.{Limits}
+use Rattle.connectors.specs.Connectors.{digital_input, analog_input, connectors_at, wrong, later, any_of}
 use Rattle.connectors.specs.Named.{six_or_seven}
 use Rattle.connectors.proofs.Laws.{none-wrong, none-later}
 use Rattle.blockfield.specs.BlockField.{kind_at, option_at, digitals_at, analogs_at, parameters_from, parameters_at, four_of, signed_at, signeds_at, wrong_length, most_option, wrong_kind, wrong_inputs, later_inputs, index_from, shift_register, block_faults}
@@ -29,12 +42,60 @@ pub known-below : (kind : ℕ) → known kind ≡ true → kind < rows
 unfolding known kinds
 known-below kind e = ltb-true kind rows (and-true (leb 1 kind) (ltb kind rows) e).1
 
-pub lent : (table : List (List ℤ)) (kind : ℕ) → table ≡ kinds_table → known kind ≡ true → Lent table kind
-lent table kind t e = record { table_is = t; has-row = known-below kind e }
-
 -- a block of a known kind whose length is not wrong
 pub right-length : (kind size : ℕ) → known kind ≡ true → (known kind && not (eqb size (content_length (kind_of kind)))) ≡ false → size ≡ content_length (kind_of kind)
 right-length kind size k e = eqb-true size (content_length (kind_of kind)) (not-false _ (simp k at e))
+
+-- ---- inputs
+
+-- whether a digital or an analog input is wrong, is later
+pub by-digitals : (wrong_d wrong_a later_d later_a : Bool) (refusal : Refusal) → number_of refusal ≡ cond wrong_d 6 0 → number_of refusal ≡ six_or_seven (wrong_d || wrong_a) (later_d || later_a)
+unfolding six_or_seven
+by-digitals true w l m refusal e = e
+by-digitals false w l m refusal e = let z : ⊥ = omega (arith, number-above refusal, e) in absurd z
+
+pub by-analogs : (wrong_d wrong_a later_d later_a : Bool) (refusal : Refusal) → ◌≡◌ {A = ℕ} 0 (cond wrong_d 6 0) → number_of refusal ≡ cond wrong_a 6 0 → number_of refusal ≡ six_or_seven (wrong_d || wrong_a) (later_d || later_a)
+unfolding six_or_seven
+by-analogs true w l m refusal d e = let z : ⊥ = omega (arith, d) in absurd z
+by-analogs false true l m refusal d e = e
+by-analogs false false l m refusal d e = let z : ⊥ = omega (arith, number-above refusal, e) in absurd z
+
+pub by-neither : (wrong_d wrong_a later_d later_a : Bool) → ◌≡◌ {A = ℕ} 0 (cond wrong_d 6 0) → ◌≡◌ {A = ℕ} 0 (cond wrong_a 6 0) → ◌≡◌ {A = ℕ} (cond (later_d || later_a) 7 0) (six_or_seven (wrong_d || wrong_a) (later_d || later_a))
+unfolding six_or_seven
+by-neither true w l m d e = let z : ⊥ = omega (arith, d) in absurd z
+by-neither false true l m d e = let z : ⊥ = omega (arith, e) in absurd z
+by-neither false false l m d e = refl
+
+-- the same of the inputs that stand in a block
+module _ (limits : Limits) (own n : ℕ) (sorts : List Bool) (s : List ℕ) (at : ℕ) (k : Kind) (d a : ℕ) (is-d : d ≡ k.digitals) (is-a : a ≡ k.analogs) where
+  abbrev wrong_d : Bool
+  wrong_d = any_of (wrong limits digital_input own n sorts) (connectors_at s (at + 5) d)
+
+  abbrev wrong_a : Bool
+  wrong_a = any_of (wrong limits analog_input own n sorts) (connectors_at s (at + 5 + 3 * d) a)
+
+  abbrev later_d : Bool
+  later_d = any_of (later own) (connectors_at s (at + 5) d)
+
+  abbrev later_a : Bool
+  later_a = any_of (later own) (connectors_at s (at + 5 + 3 * d) a)
+
+  abbrev number : ℕ
+  number = six_or_seven (wrong_inputs limits own n sorts (digitals_at s at k) (analogs_at s at k)) (later_inputs own (digitals_at s at k) (analogs_at s at k))
+
+  both : six_or_seven (wrong_d || wrong_a) (later_d || later_a) ≡ number
+  unfolding wrong_inputs later_inputs
+  both = rw (sym is-d, sym is-a) refl
+
+  pub refused-digital : (refusal : Refusal) → number_of refusal ≡ cond wrong_d 6 0 → number_of refusal ≡ number
+  refused-digital refusal e = by-digitals wrong_d wrong_a later_d later_a refusal e ∙ both
+
+  pub refused-analog : (refusal : Refusal) → ◌≡◌ {A = ℕ} 0 (cond wrong_d 6 0) → number_of refusal ≡ cond wrong_a 6 0 → number_of refusal ≡ number
+  refused-analog refusal d e = by-analogs wrong_d wrong_a later_d later_a refusal d e ∙ both
+
+  pub seven-or-none : (of_digitals of_analogs is_later : Bool) → of_digitals ≡ later_d → of_analogs ≡ later_a → (of_digitals || of_analogs) ≡ is_later → ◌≡◌ {A = ℕ} 0 (cond wrong_d 6 0) → ◌≡◌ {A = ℕ} 0 (cond wrong_a 6 0) → cond is_later 7 0 ≡ number
+  seven-or-none of_digitals of_analogs is_later p q l d e =
+      ap (λ (x : Bool). cond {A = ℕ} x 7 0) (sym l ∙ ap₂ (λ (x y : Bool). x || y) p q) ∙ by-neither wrong_d wrong_a later_d later_a d e ∙ both
 
 -- ---- parameters
 
@@ -156,6 +217,63 @@ pub record Proper (s : List ℕ) (at size stage n count kind : ℕ) : Type 0 whe
   pub room : count < n
   pub is_known : known kind ≡ true
   pub option : ltb (most_option (kind_of kind)) (option_at s at) ≡ false
+
+not-opening : (stage : Stage) → false ≡ sameb stages stage Opening → stage_of stage ≡ opening → ⊥
+not-opening Opening e z = absurd (false≢true e)
+not-opening AmongBlocks e z = omega (arith, z)
+not-opening AfterBlock e z = omega (arith, z)
+not-opening AmongRows e z = omega (arith, z)
+not-opening Ended e z = omega (arith, z)
+
+not-rows : (stage : Stage) → false ≡ sameb stages stage AmongRows → stage_of stage ≡ among_rows → ⊥
+not-rows Opening e z = omega (arith, z)
+not-rows AmongBlocks e z = omega (arith, z)
+not-rows AfterBlock e z = omega (arith, z)
+not-rows AmongRows e z = absurd (false≢true e)
+not-rows Ended e z = omega (arith, z)
+
+pub is-register : (kind : Code) → sameb codes kind ShiftRegister ≡ eqb (byte_of kind) shift_register
+is-register And = refl
+is-register AndEdge = refl
+is-register Nand = refl
+is-register NandEdge = refl
+is-register Or = refl
+is-register Nor = refl
+is-register Xor = refl
+is-register Not = refl
+is-register OnDelay = refl
+is-register OffDelay = refl
+is-register LatchingRelay = refl
+is-register ShiftRegister = refl
+is-register ThresholdTrigger = refl
+is-register Comparator = refl
+is-register Multiplexer = refl
+is-register DifferentialTrigger = refl
+is-register UpDownCounter = refl
+is-register StairwaySwitch = refl
+is-register Amplifier = refl
+
+pub proper-of : (s : List ℕ) (at size : ℕ) (stage : Stage) (n count : ℕ) (kind : Code)
+    → byte_of kind ≡ kind_at s at
+    → false ≡ sameb stages stage Opening
+    → false ≡ sameb stages stage AmongRows
+    → (size ≡ 0 → ⊥)
+    → (known (kind_at s at) && not (eqb size (content_length (kind_of (kind_at s at))))) ≡ false
+    → count < n
+    → ltb (most_option (kind_of (byte_of kind))) (option_at s at) ≡ false
+    → Proper s at size (stage_of stage) n count (byte_of kind)
+proper-of s at size stage n count kind is-kind opened rowed full long room option =
+    let l : (known (byte_of kind) && not (eqb size (content_length (kind_of (byte_of kind))))) ≡ false = rw is-kind long in
+    record {
+      is-kind = is-kind;
+      not-opening = not-opening stage opened;
+      not-rows = not-rows stage rowed;
+      not-empty = full;
+      size_is = right-length (byte_of kind) size (known-byte kind) l;
+      room = room;
+      is_known = known-byte kind;
+      option = option;
+    }
 
 -- what is left to judge of it
 module _ (limits : Limits) (s : List ℕ) (at size stage n count kind : ℕ) (sorts : List Bool) (used : Bool) (proper : Proper s at size stage n count kind) where

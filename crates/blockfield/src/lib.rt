@@ -1,81 +1,57 @@
-// The lowest number that holds for a block; 0 where none does. And the parameters of a block without a fault.
+// The lowest refusal that holds for a block, and the kind of one that is not refused. And the parameters of such a block.
 #![tactic(auto)]
 
 ghost use Rattle.std.specs.Prelude.{◌≡◌, false, not, ◌&&◌, ◌+◌, ◌*◌, ◌≤◌, ◌<◌, eqb, ltb, length, get_or, pos};
+ghost use Rattle.std.specs.Result.{IfOk};
 ghost use Rattle.words.specs.Signed.{Between};
+ghost use Rattle.kinds.specs.Codes.{byte_of};
 ghost use Rattle.kinds.specs.Kinds.{kind_of, known, content_length, parameter};
-ghost use Rattle.kinds.specs.Table.{kinds_table, Lent};
 ghost use Rattle.refusals.specs.Faults.{lowest};
+ghost use Rattle.refusals.specs.Refusals.{number_in};
+ghost use Rattle.refusals.specs.Stages.{stage_of};
 ghost use Rattle.connectors.specs.Named.{six_or_seven};
-ghost use Rattle.blockfield.specs.BlockField.{digitals_at, analogs_at, parameters_at, four_of, signed_at, signeds_at, most_option, wrong_inputs, later_inputs, index_from, block_faults};
+ghost use Rattle.blockfield.specs.BlockField.{kind_at, digitals_at, analogs_at, parameters_at, four_of, signed_at, signeds_at, most_option, wrong_inputs, later_inputs, index_from, block_faults};
 ghost use Rattle.blockfield.specs.Marked.{index_mark, known_faults};
 
-use kinds::KindTable;
-use refusals::{AMONG_ROWS, Limits, OPENING};
+use connectors::{Reach, Spot};
+use kinds::Kind;
+use refusals::{Field, Refusal, Stage};
 
-// The kind of a shift register.
-pub const REGISTER: usize = 12;
-
-// Whether a block of a known kind cannot have a content of this length. That of an unknown kind is not judged.
-fn wrong_length(kinds: &KindTable, kind: usize, size: usize) -> bool
-    requires { kinds.now ≡ kinds_table }
+// Whether a block cannot have a content of this length. That of an unknown kind is not judged.
+fn wrong_length(kind: u8, size: usize) -> bool
     ensures { result ≡ (known kind && not (eqb size (content_length (kind_of kind)))) }
 {
-    if kinds::is_known(kind) {
-        return size != kinds::content_length(kinds, kind);
+    match Kind::try_from(kind) {
+        Ok(kind) => size != kind.content_length(),
+        Err(_) => false,
     }
-    false
 }
 
-// Whether a block of a known kind cannot have this option.
-fn wrong_option(kinds: &KindTable, kind: usize, option: usize) -> bool
-    requires { Lent kinds.now kind }
-    ensures { result ≡ ltb (most_option (kind_of kind)) option }
+// Whether a block cannot have this option.
+fn wrong_option(kind: Kind, option: u8) -> bool
+    ensures { result ≡ ltb (most_option (kind_of (byte_of kind))) option }
 {
-    if kinds::may_be_retentive(kinds, kind) {
-        return 1 < option;
+    if kind.may_be_retentive() {
+        1 < option
+    } else {
+        0 < option
     }
-    0 < option
 }
 
-// The number of the inputs of a block of a known kind.
-fn inputs_number(
-    limits: Limits,
-    kinds: &KindTable,
-    bytes: &[u8],
-    at: usize,
-    kind: usize,
-    own: usize,
-    n: usize,
-    sorts: &[bool; 400],
-) -> u8
-    requires { Lent kinds.now kind × ((at + 3) + content_length (kind_of kind) ≤ length bytes.now) × (own ≤ 401) }
-    ensures { result ≡ six_or_seven (wrong_inputs limits own n sorts.now (digitals_at bytes.now at (kind_of kind)) (analogs_at bytes.now at (kind_of kind))) (later_inputs own (digitals_at bytes.now at (kind_of kind)) (analogs_at bytes.now at (kind_of kind))) }
+// The inputs of a block: what any of them is refused for, as 6 before 7.
+fn judge_inputs(reach: &Reach, bytes: &[u8], at: usize, kind: Kind) -> Result<(), Refusal>
+    requires { (at + 3) + content_length (kind_of (byte_of kind)) ≤ length bytes.now }
+    ensures { number_in result ≡ six_or_seven (wrong_inputs reach.now.limits (reach.now.blocks + 1) reach.now.n reach.now.sorts.now (digitals_at bytes.now at (kind_of (byte_of kind))) (analogs_at bytes.now at (kind_of (byte_of kind)))) (later_inputs (reach.now.blocks + 1) (digitals_at bytes.now at (kind_of (byte_of kind))) (analogs_at bytes.now at (kind_of (byte_of kind)))) }
 {
-    let d = kinds::digital_inputs(kinds, kind);
-    let a = kinds::analog_inputs(kinds, kind);
+    let d = kind.digital_inputs();
+    let a = kind.analog_inputs();
     let from = at + 5;
-    let first = connectors::inputs(
-        limits,
-        bytes,
-        from,
-        d,
-        connectors::DIGITAL_INPUT,
-        own,
-        n,
-        sorts,
-    );
-    let second = connectors::inputs(
-        limits,
-        bytes,
-        from + 3 * d,
-        a,
-        connectors::ANALOG_INPUT,
-        own,
-        n,
-        sorts,
-    );
-    connectors::lower(first, second)
+    let of_digitals = reach.judge_inputs(bytes, from, d, Spot::DigitalInput)?;
+    let of_analogs = reach.judge_inputs(bytes, from + 3 * d, a, Spot::AnalogInput)?;
+    if of_digitals | of_analogs {
+        return Err(Refusal::OwnOrLaterBlock);
+    }
+    Ok(())
 }
 
 // Parameter j of `count` that stand from a place on; 0 where there is none.
@@ -84,19 +60,20 @@ fn parameter_at(bytes: &[u8], from: usize, count: usize, j: usize) -> i32
     ensures { result ≡ parameter (signeds_at bytes.now from count) j }
 {
     if j < count {
-        return words::signed_four_at(bytes, from + 4 * j);
+        words::signed_four_at(bytes, from + 4 * j)
+    } else {
+        0
     }
-    0
 }
 
-// The parameters of a block of a known kind, 0 where it has none.
-pub fn parameters_at(kinds: &KindTable, bytes: &[u8], at: usize, kind: usize) -> [i32; 4]
-    requires { Lent kinds.now kind × ((at + 3) + content_length (kind_of kind) ≤ length bytes.now) }
-    ensures { result ≡ four_of (parameters_at bytes.now at (kind_of kind)) }
+// The parameters of a block, 0 where it has none.
+pub fn parameters_at(bytes: &[u8], at: usize, kind: Kind) -> [i32; 4]
+    requires { (at + 3) + content_length (kind_of (byte_of kind)) ≤ length bytes.now }
+    ensures { result ≡ four_of (parameters_at bytes.now at (kind_of (byte_of kind))) }
 {
-    let d = kinds::digital_inputs(kinds, kind);
-    let a = kinds::analog_inputs(kinds, kind);
-    let count = kinds::parameters(kinds, kind);
+    let d = kind.digital_inputs();
+    let a = kind.analog_inputs();
+    let count = kind.parameters();
     let from = at + 5 + 3 * (d + a);
     [
         parameter_at(bytes, from, count, 0),
@@ -106,31 +83,19 @@ pub fn parameters_at(kinds: &KindTable, bytes: &[u8], at: usize, kind: usize) ->
     ]
 }
 
-// The number of a block of a known kind and a right length, an index used twice aside.
-fn known_number(
-    limits: Limits,
-    kinds: &KindTable,
-    bytes: &[u8],
-    at: usize,
-    kind: usize,
-    own: usize,
-    n: usize,
-    sorts: &[bool; 400],
-) -> u8
-    requires { Lent kinds.now kind × ((at + 3) + content_length (kind_of kind) ≤ length bytes.now) × (own ≤ 401) }
-    ensures { result ≡ lowest (known_faults limits bytes.now at kind own n sorts.now) }
+// The inputs and parameters of a block.
+fn judge_known(reach: &Reach, bytes: &[u8], at: usize, kind: Kind) -> Result<(), Refusal>
+    requires { (at + 3) + content_length (kind_of (byte_of kind)) ≤ length bytes.now }
+    ensures { number_in result ≡ lowest (known_faults reach.now.limits bytes.now at (byte_of kind) (reach.now.blocks + 1) reach.now.n reach.now.sorts.now) }
 {
-    let fault = inputs_number(limits, kinds, bytes, at, kind, own, n, sorts);
-    if fault != 0 {
-        return fault;
+    judge_inputs(reach, bytes, at, kind)?;
+    if kind.parameters() == 0 {
+        return Ok(());
     }
-    if kinds::parameters(kinds, kind) == 0 {
-        return 0;
+    if !kind.allows(parameters_at(bytes, at, kind)) {
+        return Err(Refusal::Parameter);
     }
-    if kinds::are_allowed(kinds, kind, parameters_at(kinds, bytes, at, kind)) {
-        return 0;
-    }
-    8
+    Ok(())
 }
 
 // The mark of a shift register whose index is in its range.
@@ -141,54 +106,45 @@ pub fn index_mark(bytes: &[u8], at: usize) -> usize
     words::amount_of(words::signed_four_at(bytes, at + 14)) as usize - 1
 }
 
-// The number of a block. The blocks before it, and which of them are analog; the marks of the indices used.
-pub fn block_number(
-    limits: Limits,
-    kinds: &KindTable,
-    bytes: &[u8],
-    at: usize,
-    size: usize,
-    stage: u8,
-    n: usize,
-    blocks: usize,
-    sorts: &[bool; 400],
+// The kind of a block; `registers` are the marks of the shift registers before.
+#[tactic(auto, unfolding(crate::specs::BlockField::block_faults, crate::specs::BlockField::wrong_length, crate::specs::BlockField::wrong_kind))]
+pub fn judge_block(
+    reach: &Reach,
+    field: &Field,
+    stage: Stage,
     registers: &[bool; 4],
-) -> u8
-    requires { (kinds.now ≡ kinds_table) × ((at + 3) + size ≤ length bytes.now) × (n ≤ 400) × (blocks ≤ n) }
-    ensures { result ≡ lowest (block_faults limits bytes.now at size stage n blocks sorts.now (get_or registers.now (index_mark bytes.now at) false)) }
+) -> Result<Kind, Refusal>
+    ensures number { number_in result ≡ lowest (block_faults reach.now.limits field.now.bytes.now field.now.at field.now.size (stage_of stage) reach.now.n reach.now.blocks reach.now.sorts.now (get_or registers.now (index_mark field.now.bytes.now field.now.at) false)) }
+    ensures kind { IfOk result (λ kind. byte_of kind ≡ kind_at field.now.bytes.now field.now.at) }
 {
-    if stage == OPENING {
-        return 2;
+    if stage == Stage::Opening {
+        return Err(Refusal::TagOrLength);
     }
-    if stage == AMONG_ROWS {
-        return 2;
+    if stage == Stage::AmongRows {
+        return Err(Refusal::TagOrLength);
     }
-    if size == 0 {
-        return 2;
+    if field.size == 0 {
+        return Err(Refusal::TagOrLength);
     }
-    let kind = words::byte_at(bytes, at + 3);
-    if wrong_length(kinds, kind, size) {
-        return 2;
+    let byte = field.bytes[field.at + 3];
+    if wrong_length(byte, field.size) {
+        return Err(Refusal::TagOrLength);
     }
-    if n <= blocks {
-        return 4;
+    if reach.n <= reach.blocks {
+        return Err(Refusal::NumberOfBlocks);
     }
-    if !kinds::is_known(kind) {
-        return 5;
+    let Ok(kind) = Kind::try_from(byte) else {
+        return Err(Refusal::KindOrOption);
+    };
+    if wrong_option(kind, field.bytes[field.at + 4]) {
+        return Err(Refusal::KindOrOption);
     }
-    let option = words::byte_at(bytes, at + 4);
-    if wrong_option(kinds, kind, option) {
-        return 5;
+    judge_known(reach, field.bytes, field.at, kind)?;
+    if kind != Kind::ShiftRegister {
+        return Ok(kind);
     }
-    let fault = known_number(limits, kinds, bytes, at, kind, blocks + 1, n, sorts);
-    if fault != 0 {
-        return fault;
+    if registers[index_mark(field.bytes, field.at)] {
+        return Err(Refusal::IndexUsedTwice);
     }
-    if kind != REGISTER {
-        return 0;
-    }
-    if registers[index_mark(bytes, at)] {
-        return 10;
-    }
-    0
+    Ok(kind)
 }

@@ -1,52 +1,59 @@
 -- What a block's rule counts on follows from its kind. Assumes nothing.
 use mathlib.Core.Path.{◌≡◌, refl}
-use mathlib.Core.Bool.{Bool, true, false}
+use mathlib.Core.Bool.{true}
 use mathlib.Core.List.{List, ◌∷◌}
-use Prim.Native.Nat.{ℕ, zero, suc, ◌≤◌, ◌<◌}
+use Prim.Native.Nat.{ℕ, ◌<◌}
 use native.Mathlib.Omega.{arith}
-use borrow.Author.Tests.{eqb-true, eqb-false, leb-true, leb-false}
-use lib.Dec.{eqb, leb}
-use lib.ListN.{get_or, get_or-eq_default}
-use lib.IntN.{pos}
-use Rattle.words.specs.Signed.{Between}
-use Rattle.kinds.specs.Kinds.{Range, ◌to◌, kind_of, parameter, gain, offset, indexed}
+use lib.ListN.{get_or}
+use lib.IntN.{ℤ, pos}
+use Rattle.words.specs.Signed.{minus, Between}
+use Rattle.kinds.specs.declared.kind.Kind.{Kind}
+use Rattle.kinds.specs.declared.kind.Kind.TheVariants.{ShiftRegister, ThresholdTrigger, Comparator, DifferentialTrigger, Amplifier}
+use Rattle.kinds.specs.Codes.{byte_of}
+use Rattle.kinds.specs.Kinds.{Range, ◌to◌, kinds, kind_of, parameter, gain, offset, indexed, scaled, allowed}
+use Rattle.kinds.proofs.Allowed.{param_in}
 use Rattle.blocks.specs.declared.Prepared.{Prepared}
-use Rattle.blocks.specs.Blocks.{idle, rules, worked_out}
 use Rattle.blocks.specs.Fit.{Fit, Scaling}
 
-module _ {kind : ℕ} {p : Prepared} (f : Fit kind p) where
+module _ (k : Kind) (p : Prepared) (f : Fit (byte_of k) p) where
   -- a parameter in the range that its kind's list of parameters has
-  param-at : (rs : List Range) → (kind_of kind).parameters ≡ rs → (j : ℕ) → j < 3 → Between (get_or rs j (pos 0 to pos 0)).least (get_or rs j (pos 0 to pos 0)).greatest (parameter p.params j)
+  param-at : (rs : List Range) → (kind_of (byte_of k)).parameters ≡ rs → (j : ℕ) → j < 3 → Between (get_or rs j (pos 0 to pos 0)).least (get_or rs j (pos 0 to pos 0)).greatest (parameter p.params j)
   param-at rs e j h = rw e at (f.params_are j (omega arith) (λ is. h))
 
-  -- kinds 13, 14, 16 and 19: A and B come first
-  pub scaling : (rs : List Range) → (kind_of kind).parameters ≡ gain ∷ offset ∷ rs → Scaling p
-  scaling rs e = record { gain-is = param-at _ e 0 (omega arith); offset-is = param-at _ e 1 (omega arith) }
+  -- A and B come first
+  scaling : (v : Kind) (rs : List Range) → (kind_of (byte_of v)).parameters ≡ gain ∷ offset ∷ rs → k ≡ v → Scaling p
+  scaling v rs e is =
+      record { gain-is = param-at (gain ∷ offset ∷ rs) (rw is e) 0 (omega arith); offset-is = param-at (gain ∷ offset ∷ rs) (rw is e) 1 (omega arith) }
 
-  pub indexing : (kind_of kind).parameters ≡ indexed → Between (pos 1) (pos 8) (parameter p.params 1)
-  unfolding indexed
-  indexing e = param-at indexed e 1 (omega arith)
+  pub by_threshold : k ≡ ThresholdTrigger → Scaling p
+  unfolding kind_of kinds scaled
+  by_threshold is = scaling ThresholdTrigger _ refl is
 
--- ---- no other kind has a rule
+  pub by_comparator : k ≡ Comparator → Scaling p
+  unfolding kind_of kinds scaled
+  by_comparator is = scaling Comparator _ refl is
 
--- none of 1 to n, as the last arm of a match knows it
-abbrev NoneOf : ℕ → ℕ → Type 0
-NoneOf kind zero = Unit {0}
-NoneOf kind (suc n) = NoneOf kind n × (kind ≡ suc n → ⊥)
+  pub by_differential : k ≡ DifferentialTrigger → Scaling p
+  unfolding kind_of kinds scaled
+  by_differential is = scaling DifferentialTrigger _ refl is
 
-none_of : (kind n : ℕ) → NoneOf kind n → 1 ≤ kind → kind ≤ n → ⊥
-none_of kind zero ne h k = omega arith
-none_of kind (suc n) ne h k = by (eqb kind (suc n)) refl (none_of kind n ne.0 h)
-  where
-    by : (b : Bool) → eqb kind (suc n) ≡ b → (kind ≤ n → ⊥) → ⊥
-    by true e less = ne.1 (eqb-true kind (suc n) e)
-    by false e less = less (omega (arith, eqb-false kind (suc n) e))
+  pub by_amplifier : k ≡ Amplifier → Scaling p
+  unfolding kind_of kinds
+  by_amplifier is = scaling Amplifier _ refl is
 
-pub no-rule : (kind : ℕ) → NoneOf kind 19 → worked_out kind ≡ idle
-unfolding worked_out rules
-no-rule zero ne = refl
-no-rule (suc k) ne = by (leb (suc k) 19) refl
-  where
-    by : (b : Bool) → leb (suc k) 19 ≡ b → get_or rules (suc k) idle ≡ idle
-    by true e = absurd (none_of (suc k) 19 ne (omega arith) (leb-true (suc k) 19 e))
-    by false e = get_or-eq_default rules idle (leb-false (suc k) 19 e)
+  -- the bit of a shift register
+  pub by_register : k ≡ ShiftRegister → Between (pos 1) (pos 8) (parameter p.params 1)
+  unfolding kind_of kinds indexed
+  by_register is = param-at indexed (rw is refl) 1 (omega arith)
+
+-- On and Δ of a differential trigger
+module _ (k : Kind) (p : List ℤ) (a : allowed (byte_of k) p ≡ true) (is : k ≡ DifferentialTrigger) where
+  pub on-in : Between (minus 20000) (pos 20000) (parameter p 2)
+  unfolding kind_of kinds scaled
+  on-in = rw is at (param_in (byte_of k) p a 2 (omega arith))
+
+  pub delta-in : Between (minus 20000) (pos 20000) (parameter p 3)
+  unfolding kind_of kinds scaled
+  delta-in = rw is at (param_in (byte_of k) p a 3 (omega arith))
+
+pub ruleset differences = (on-in, delta-in)

@@ -4,13 +4,13 @@
 ghost use Rattle.std.specs.Prelude.{◌≡◌, true, ◌≤◌, ◌<◌, ◌^◌, pos};
 ghost use Rattle.words.specs.Signed.{Between, over};
 ghost use Rattle.kinds.specs.Kinds.{kind_of, parameter, allowed};
-ghost use Rattle.kinds.specs.Table.{Lent};
+ghost use Rattle.kinds.specs.Codes.{byte_of};
 ghost use Rattle.kinds.specs.Time.{ticks};
 ghost use Rattle.rules.specs.Rules.{three, bit, on_delay, off_delay, latching_relay, shift_register, threshold_trigger, compared, multiplexed, amplified, up_down_counter, stairway_switch};
 ghost use Rattle.blocks.specs.Blocks.{time_of, prepared, was_bit, was_on, was_pressed, was_running, was_number, worked_out};
 ghost use Rattle.blocks.specs.Fit.{Fit, Sixteen, Scaling};
 
-use kinds::{KindTable, Ticks};
+use kinds::{Kind, Setting, Ticks};
 use rules::BlockWords;
 
 // A block's parameters, made ready: its settings T, T! and T!L in ticks, Off worked out.
@@ -23,39 +23,31 @@ pub struct Prepared {
 }
 
 // The ticks that setting j, from 1, of a block sets.
-fn time_of(kinds: &KindTable, kind: usize, j: usize, params: [i32; 4]) -> Ticks
-    requires { Lent kinds.now kind × (allowed kind params ≡ true) × (1 ≤ j) }
-    ensures { result ≡ time_of (kind_of kind).times j params }
+fn time_of(kind: Kind, j: usize, params: [i32; 4]) -> Ticks
+    requires { (allowed (byte_of kind) params ≡ true) × (1 ≤ j) }
+    ensures { result ≡ time_of (kind_of (byte_of kind)).times j params }
 {
-    if kinds::times(kinds, kind) < j {
-        return Ticks(0);
+    if j <= kind.times() {
+        Setting::new(params[0], params[j]).into()
+    } else {
+        Ticks(0)
     }
-    kinds::ticks_of(kinds::setting_of(params[0], params[j]))
 }
 
 // A block's parameters, made ready.
-#[tactic(auto, unfolding(crate::specs::Blocks::prepared))]
-pub fn prepare(kinds: &KindTable, kind: usize, params: [i32; 4]) -> Prepared
-    requires { Lent kinds.now kind × (allowed kind params ≡ true) }
-    ensures { result ≡ prepared kind params }
+#[tactic(auto, using(crate::proofs::Ready::differences), unfolding(crate::specs::Blocks::prepared))]
+pub fn prepare(kind: Kind, params: [i32; 4]) -> Prepared
+    requires { allowed (byte_of kind) params ≡ true }
+    ensures { result ≡ prepared (byte_of kind) params }
 {
-    let time = time_of(kinds, kind, 1, params);
-    let warning = time_of(kinds, kind, 2, params);
-    let dark = time_of(kinds, kind, 3, params);
-    if kind == 16 {
-        let params = thresholds::with_off(params);
-        return Prepared {
-            time,
-            warning,
-            dark,
-            params,
-        };
-    }
     Prepared {
-        time,
-        warning,
-        dark,
-        params,
+        time: time_of(kind, 1, params),
+        warning: time_of(kind, 2, params),
+        dark: time_of(kind, 3, params),
+        params: match kind {
+            Kind::DifferentialTrigger => thresholds::with_off(params),
+            _ => params,
+        },
     }
 }
 
@@ -63,21 +55,21 @@ pub fn prepare(kinds: &KindTable, kind: usize, params: [i32; 4]) -> Prepared
 fn was_bit(was: BlockWords) -> bool
     ensures { result ≡ was_bit was }
 {
-    words::bit_of(was.remembered)
+    was.remembered != 0
 }
 
 // Q of the last scan.
 fn was_on(was: BlockWords) -> bool
     ensures { result ≡ was_on was }
 {
-    words::bit_of(was.output)
+    was.output != 0
 }
 
 // The remembered word as a number: 0 to 3 of a stairway switch.
 fn was_held(was: BlockWords) -> u32
     ensures { result ≡ over was.remembered }
 {
-    words::amount_of(was.remembered)
+    was.remembered.max(0) as u32
 }
 
 // Trg of the last scan, of a stairway switch.
@@ -99,15 +91,7 @@ fn was_running(was: BlockWords) -> bool
 fn was_number(was: BlockWords) -> u32
     ensures { (result ≡ was_number was) × (result < 2 ^ 31) }
 {
-    words::amount_of(was.number)
-}
-
-// Parameter j, from 0.
-fn parameter_of(p: Prepared, j: usize) -> i32
-    requires { j < 4 }
-    ensures { result ≡ parameter p.params j }
-{
-    p.params[j]
+    was.number.max(0) as u32
 }
 
 // A block of kind 9: Trg.
@@ -116,8 +100,7 @@ fn on_block(bits: [bool; 4], p: Prepared, was: BlockWords, e: Ticks) -> BlockWor
     ensures { result ≡ on_delay (bit bits 0) (was_bit was) (ticks (was_number was)) p.time e }
 {
     let ta = Ticks(was_number(was));
-    let t = p.time;
-    rules::on_delay(bits[0], was_bit(was), ta, t, e)
+    rules::on_delay(bits[0], was_bit(was), ta, p.time, e)
 }
 
 // A block of kind 10: Trg, R.
@@ -126,8 +109,7 @@ fn off_block(bits: [bool; 4], p: Prepared, was: BlockWords, e: Ticks) -> BlockWo
     ensures { result ≡ off_delay (bit bits 1) (bit bits 0) (was_bit was) (was_on was) (ticks (was_number was)) p.time e }
 {
     let ta = Ticks(was_number(was));
-    let t = p.time;
-    rules::off_delay(bits[1], bits[0], was_bit(was), was_on(was), ta, t, e)
+    rules::off_delay(bits[1], bits[0], was_bit(was), was_on(was), ta, p.time, e)
 }
 
 // A block of kind 12: In, Trg, Dir.
@@ -135,9 +117,14 @@ fn shift_block(bits: [bool; 4], p: Prepared, was: BlockWords) -> BlockWords
     requires { Between (pos 1) (pos 8) (parameter p.params 1) }
     ensures { result ≡ shift_register (bit bits 0) (bit bits 1) (bit bits 2) (was_bit was) (was_number was) (over (parameter p.params 1)) }
 {
-    let register = was_number(was);
-    let j = words::amount_of(parameter_of(p, 1));
-    rules::shift_register(bits[0], bits[1], bits[2], was_bit(was), register, j)
+    rules::shift_register(
+        bits[0],
+        bits[1],
+        bits[2],
+        was_bit(was),
+        was_number(was),
+        p.params[1] as u32,
+    )
 }
 
 // A block of kind 11: S, R.
@@ -152,8 +139,7 @@ fn trigger_block(analog: [i32; 2], p: Prepared, was: BlockWords) -> BlockWords
     requires { Sixteen analog × Scaling p }
     ensures { result ≡ threshold_trigger (parameter analog 0) p.params (was_on was) }
 {
-    let params = p.params;
-    thresholds::threshold_trigger(analog[0], params, was_on(was))
+    thresholds::threshold_trigger(analog[0], p.params, was_on(was))
 }
 
 // A block of kind 14: Ax, Ay.
@@ -161,32 +147,28 @@ fn compare_block(analog: [i32; 2], p: Prepared, was: BlockWords) -> BlockWords
     requires { Sixteen analog × Scaling p }
     ensures { result ≡ compared (parameter analog 0) (parameter analog 1) p.params (was_on was) }
 {
-    let params = p.params;
-    thresholds::comparator(analog[0], analog[1], params, was_on(was))
+    thresholds::comparator(analog[0], analog[1], p.params, was_on(was))
 }
 
 // A block of kind 15: En, S1, S2.
 fn choice_block(bits: [bool; 4], p: Prepared) -> BlockWords
     ensures { result ≡ multiplexed (bit bits 0) (bit bits 1) (bit bits 2) p.params }
 {
-    let params = p.params;
-    rules::multiplexer(bits[0], bits[1], bits[2], params)
+    rules::multiplexer(bits[0], bits[1], bits[2], p.params)
 }
 
 // A block of kind 17: R, Cnt, Dir.
 fn count_block(bits: [bool; 4], p: Prepared, was: BlockWords) -> BlockWords
     ensures { result ≡ up_down_counter (bit bits 0) (bit bits 1) (bit bits 2) (was_bit was) (was_on was) (was_number was) p.params }
 {
-    let count = was_number(was);
-    let params = p.params;
     counter::up_down_counter(
         bits[0],
         bits[1],
         bits[2],
         was_bit(was),
         was_on(was),
-        count,
-        params,
+        was_number(was),
+        p.params,
     )
 }
 
@@ -195,18 +177,14 @@ fn stairs_block(bits: [bool; 4], p: Prepared, was: BlockWords, e: Ticks) -> Bloc
     requires { (p.time.0 < 2 ^ 31) × (p.warning.0 ≤ p.time.0) × (p.dark.0 ≤ p.time.0) × (e.0 < 2 ^ 31) }
     ensures { result ≡ stairway_switch (bit bits 0) (was_pressed was) (was_running was) (ticks (was_number was)) p.time p.warning p.dark e }
 {
-    let ta = Ticks(was_number(was));
-    let t = p.time;
-    let warning = p.warning;
-    let dark = p.dark;
     stairway::stairway_switch(
         bits[0],
         was_pressed(was),
         was_running(was),
-        ta,
-        t,
-        warning,
-        dark,
+        Ticks(was_number(was)),
+        p.time,
+        p.warning,
+        p.dark,
         e,
     )
 }
@@ -216,49 +194,41 @@ fn amplify_block(analog: [i32; 2], p: Prepared) -> BlockWords
     requires { Sixteen analog × Scaling p }
     ensures { result ≡ amplified (parameter analog 0) p.params }
 {
-    let params = p.params;
-    thresholds::amplifier(analog[0], params)
-}
-
-// No block has another kind.
-fn nothing() -> BlockWords
-    ensures { result ≡ three (pos 0) (pos 0) (pos 0) }
-{
-    rules::three_of(0, 0, 0)
+    thresholds::amplifier(analog[0], p.params)
 }
 
 // What a block's three words become, by its kind: from its digital and analog inputs, resolved together, its parameters, its words and e.
+#[tactic(auto, using(crate::proofs::Ready::by_register), unfolding(crate::specs::Blocks::worked_out, crate::specs::Blocks::rules))]
 pub fn worked_out(
-    kind: usize,
+    kind: Kind,
     bits: [bool; 4],
     analog: [i32; 2],
     p: Prepared,
     was: BlockWords,
     e: Ticks,
 ) -> BlockWords
-    requires { Fit kind p × Sixteen analog × (e.0 < 2 ^ 31) }
-    ensures { result ≡ worked_out kind bits analog p was e }
+    requires { Fit (byte_of kind) p × Sixteen analog × (e.0 < 2 ^ 31) }
+    ensures { result ≡ worked_out (byte_of kind) bits analog p was e }
 {
     match kind {
-        1 => rules::and_gate(bits),
-        2 => rules::and_edge(bits, was_bit(was)),
-        3 => rules::nand_gate(bits),
-        4 => rules::nand_edge(bits, was_bit(was)),
-        5 => rules::or_gate(bits),
-        6 => rules::nor_gate(bits),
-        7 => rules::xor_gate(bits),
-        8 => rules::not_gate(bits),
-        9 => on_block(bits, p, was, e),
-        10 => off_block(bits, p, was, e),
-        11 => relay_block(bits, was),
-        12 => shift_block(bits, p, was),
-        13 => trigger_block(analog, p, was),
-        14 => compare_block(analog, p, was),
-        15 => choice_block(bits, p),
-        16 => trigger_block(analog, p, was),
-        17 => count_block(bits, p, was),
-        18 => stairs_block(bits, p, was, e),
-        19 => amplify_block(analog, p),
-        _ => nothing(),
+        Kind::And => rules::and_gate(bits),
+        Kind::AndEdge => rules::and_edge(bits, was_bit(was)),
+        Kind::Nand => rules::nand_gate(bits),
+        Kind::NandEdge => rules::nand_edge(bits, was_bit(was)),
+        Kind::Or => rules::or_gate(bits),
+        Kind::Nor => rules::nor_gate(bits),
+        Kind::Xor => rules::xor_gate(bits),
+        Kind::Not => rules::not_gate(bits),
+        Kind::OnDelay => on_block(bits, p, was, e),
+        Kind::OffDelay => off_block(bits, p, was, e),
+        Kind::LatchingRelay => relay_block(bits, was),
+        Kind::ShiftRegister => shift_block(bits, p, was),
+        Kind::ThresholdTrigger => trigger_block(analog, p, was),
+        Kind::Comparator => compare_block(analog, p, was),
+        Kind::Multiplexer => choice_block(bits, p),
+        Kind::DifferentialTrigger => trigger_block(analog, p, was),
+        Kind::UpDownCounter => count_block(bits, p, was),
+        Kind::StairwaySwitch => stairs_block(bits, p, was, e),
+        Kind::Amplifier => amplify_block(analog, p),
     }
 }

@@ -1,28 +1,33 @@
 -- The pass goes as the verdict walks: field by field, by tag, to the end field and what is behind it. Assumes nothing.
+use Rattle.std.specs.Prelude.{Ok, Err}
 use mathlib.Core.Path.{◌≡◌, refl, ap, ap₂, sym, ◌∙◌, subst}
 use mathlib.Core.Bool.{Bool, true, false}
 use mathlib.Core.List.{List, [], ◌∷◌, map}
 use Prim.Native.Nat.{ℕ, zero, suc, ◌+◌, ◌-◌, ◌≤◌, ◌<◌}
 use native.Mathlib.Omega.{arith}
 use lib.Dec.{ltb}
-use lib.ListN.{length, get_or, take, replicate, get_or-replicate, length-replicate}
+use lib.ListN.{length, get_or, take, get_or-replicate, length-replicate}
 use borrow.Author.Tests.{lt-ltb, le-ltb, eq-eqb, ne_eqb, ltb-false}
 use Rattle.refusals.specs.Faults.{Fault, lowest, ◌when◌}
-use Rattle.refusals.specs.Stages.{opening, ended}
+use Rattle.refusals.specs.Stages.{ended}
 use Rattle.refusals.specs.Modest.{Modest}
-use Rattle.refusals.specs.Answers.{refused_at, accepted_with}
 use Rattle.refusals.specs.declared.Limits.{Limits}
 use Rattle.fields.specs.Marks.{mark}
 use Rattle.fields.proofs.Laws.{mark-below}
 use Rattle.decoding.specs.Decoded.{header_in, block_in, label_in, row_in, end_in, State, index_used, destination_used, size_at, next_at, header_taken, block_taken, label_taken, row_taken, end_taken, nothing, circuit_of, block_at}
-use Rattle.circuit.specs.Circuit.{tag_faults, field_faults, field_number, taken, closing, walk, refused, accepted, verdict_at, answer_to, answer_at}
-use Rattle.decoding.specs.Held.{rows_at, Seen, seen_of, Judged, Judges, Sound, Holds}
-use Rattle.circuit.specs.Judged.{Answers, Says}
-use Rattle.decoding.specs.declared.Head.{Head}
-use Rattle.circuit.specs.declared.Outcome.{Outcome}
+use Rattle.circuit.specs.Circuit.{is_cut, tag_faults, field_faults, field_number, taken, closing, walk, refused, accepted, verdict_at}
+use Rattle.decoding.proofs.Steps.{refuses}
+use Rattle.decoding.specs.Held.{rows_at, Seen, seen, head_of, Nothing, Adds, Judged, Judges, Sound, Holds}
+use Rattle.refusals.specs.declared.Field.{Field}
+use Rattle.decoding.specs.declared.known.Known.{Known}
+use Rattle.circuit.specs.Read.{Reads}
+use Rattle.circuit.specs.Judged.{Accepts, Answers, Says}
+use Rattle.refusals.specs.declared.Refused.{Refused}
+use Rattle.refusals.specs.declared.Refusal.TheVariants.{SurplusBytes}
+use Rattle.refusals.specs.Refusals.{number_of}
+use Rattle.refusals.proofs.Numbers.{number-above}
 use Rattle.refusals.proofs.Tests.{or-false}
 use Rattle.circuit.proofs.Tags.{whole-iff, of-header, of-block, of-label, of_row, of_end, of_other}
-use Rattle.decoding.proofs.Steps.{head_of}
 
 -- ---- the field at a place
 
@@ -35,15 +40,10 @@ judges-as {limits} {s} {r} p q t j =
       sound = j.sound;
     }
 
--- a field that is cut short, by its head or by its content
 module _ (limits : Limits) (s : List ℕ) (at : ℕ) (st : State) where
-  pub head-cut : length s < at + 3 → 1 ≡ field_number limits s at st
+  pub cut-short : is_cut s at ≡ true → 1 ≡ field_number limits s at st
   unfolding field_number field_faults
-  head-cut h = simp (lt-ltb _ _ h)
-
-  pub content-cut : at + 3 ≤ length s → length s < next_at s at → 1 ≡ field_number limits s at st
-  unfolding field_number field_faults
-  content-cut l h = simp (le-ltb _ _ l, lt-ltb _ _ h)
+  cut-short e = simp e
 
   -- one without a fault lies within the bytes
   pub field_fits : field_number limits s at st ≡ 0 → next_at s at ≤ length s
@@ -58,48 +58,62 @@ module _ (limits : Limits) (s : List ℕ) (at : ℕ) (st : State) where
       let l : at + 3 ≤ length s = omega arith in
       simp (le-ltb _ _ l, le-ltb _ _ h) refl
 
-module _ (limits : Limits) (s : List ℕ) (at size : ℕ) (q : size ≡ size_at s at) (fit : (at + 3) + size ≤ length s) (st : State) where
-  whole : next_at s at ≤ length s
-  whole = subst (λ (z : ℕ). (at + 3) + z ≤ length s) q fit
+-- a field that was read at a place: what is said of its bytes and its place is said of those where it was read
+module _ (limits : Limits) (s : List ℕ) (at next : ℕ) (f : Field) (reads : Reads s at (Ok f) next) (before after : Seen) (number : ℕ) where
+  abbrev said : ℕ → Judged
+  said i = record { number = number; next = i; seen = after }
+
+  there : Answers limits f.bytes.now f.at before (said ((f.at + 3) + f.size)) → Answers limits s at before (said next)
+  there a =
+      let n : (f.at + 3) + f.size ≡ next = omega (arith, reads.1, reads.2, reads.3) in
+      subst (λ (l : List ℕ). Answers limits l at before (said next)) reads.0
+      (subst (λ (i : ℕ). Answers limits f.bytes.now i before (said next)) reads.1
+      (subst (λ (i : ℕ). Answers limits f.bytes.now f.at before (said i)) n a))
+
+  sized : f.size ≡ size_at f.bytes.now f.at
+  sized = reads.2 ∙ ap₂ size_at (sym reads.0) (sym reads.1)
+
+  whole : next_at f.bytes.now f.at ≤ length f.bytes.now
+  whole = subst (λ (z : ℕ). (f.at + 3) + z ≤ length f.bytes.now) sized f.inside
 
   -- what holds for the field's own tag holds for the field
-  module _ (faults : ℕ → List Fault) (then : State) (is-faults : tag_faults limits s at st ≡ faults (size_at s at)) (is-then : taken s at st ≡ then) where
-    by-tag : (r : Judged) → Judges limits s (lowest (faults size)) ((at + 3) + size) then r → Judges limits s (field_number limits s at st) (next_at s at) (taken s at st) r
-    by-tag r j =
-        judges-as
-        (ap (λ (z : ℕ). lowest (faults z)) q ∙ ap lowest (sym is-faults) ∙ field-tag limits s at st whole)
-        (ap (λ (z : ℕ). (at + 3) + z) q)
-        (sym is-then)
-        j
+  by-tag : (faults : ℕ → State → List Fault) (then : State → State) → ((st : State) → tag_faults limits f.bytes.now f.at st ≡ faults (size_at f.bytes.now f.at) st) → ((st : State) → taken f.bytes.now f.at st ≡ then st)
+      → Adds limits f.bytes.now before (faults f.size) ((f.at + 3) + f.size) then (said ((f.at + 3) + f.size)) → Answers limits s at before (said next)
+  by-tag faults then is-faults is-then adds =
+      there (λ st h.
+      judges-as
+      (ap (λ (z : ℕ). lowest (faults z st)) sized ∙ ap lowest (sym (is-faults st)) ∙ field-tag limits f.bytes.now f.at st whole)
+      (ap (λ (z : ℕ). (f.at + 3) + z) sized)
+      (sym (is-then st))
+      (adds st h))
 
-  pub field-header : (r : Judged) → get_or s at 0 ≡ 0x01 → Judges limits s (lowest (header_in limits s at size st)) ((at + 3) + size) (header_taken s at st) r → Judges limits s (field_number limits s at st) (next_at s at) (taken s at st) r
+  pub field-header : get_or f.bytes.now f.at 0 ≡ 0x01 → Adds limits f.bytes.now before (header_in limits f.bytes.now f.at f.size) ((f.at + 3) + f.size) (header_taken f.bytes.now f.at) (said ((f.at + 3) + f.size)) → Answers limits s at before (said next)
   unfolding tag_faults taken
-  field-header r t j =
-      by-tag (λ z. header_in limits s at z st) (header_taken s at st) (of-header _ _ _ _ _ _ _ t) (of-header _ _ _ _ _ _ _ t) r j
+  field-header t = by-tag (header_in limits f.bytes.now f.at) (header_taken f.bytes.now f.at) (λ st. of-header _ _ _ _ _ _ _ t) (λ st. of-header _ _ _ _ _ _ _ t)
 
-  pub field-block : (r : Judged) → get_or s at 0 ≡ 0x10 → Judges limits s (lowest (block_in limits s at size st)) ((at + 3) + size) (block_taken s at st) r → Judges limits s (field_number limits s at st) (next_at s at) (taken s at st) r
+  pub field-block : get_or f.bytes.now f.at 0 ≡ 0x10 → Adds limits f.bytes.now before (block_in limits f.bytes.now f.at f.size) ((f.at + 3) + f.size) (block_taken f.bytes.now f.at) (said ((f.at + 3) + f.size)) → Answers limits s at before (said next)
   unfolding tag_faults taken
-  field-block r t j =
-      by-tag (λ z. block_in limits s at z st) (block_taken s at st) (of-block _ _ _ _ _ _ _ t) (of-block _ _ _ _ _ _ _ t) r j
+  field-block t = by-tag (block_in limits f.bytes.now f.at) (block_taken f.bytes.now f.at) (λ st. of-block _ _ _ _ _ _ _ t) (λ st. of-block _ _ _ _ _ _ _ t)
 
-  pub field-label : (r : Judged) → get_or s at 0 ≡ 0x20 → Judges limits s (lowest (label_in size st)) ((at + 3) + size) (label_taken s at st) r → Judges limits s (field_number limits s at st) (next_at s at) (taken s at st) r
+  pub field-label : get_or f.bytes.now f.at 0 ≡ 0x20 → Adds limits f.bytes.now before (label_in f.size) ((f.at + 3) + f.size) (label_taken f.bytes.now f.at) (said ((f.at + 3) + f.size)) → Answers limits s at before (said next)
   unfolding tag_faults taken
-  field-label r t j =
-      by-tag (λ z. label_in z st) (label_taken s at st) (of-label _ _ _ _ _ _ _ t) (of-label _ _ _ _ _ _ _ t) r j
+  field-label t = by-tag label_in (label_taken f.bytes.now f.at) (λ st. of-label _ _ _ _ _ _ _ t) (λ st. of-label _ _ _ _ _ _ _ t)
 
-  pub field_row : (r : Judged) → get_or s at 0 ≡ 0x30 → Judges limits s (lowest (row_in limits s at size st)) ((at + 3) + size) (row_taken s at st) r → Judges limits s (field_number limits s at st) (next_at s at) (taken s at st) r
+  pub field_row : get_or f.bytes.now f.at 0 ≡ 0x30 → Adds limits f.bytes.now before (row_in limits f.bytes.now f.at f.size) ((f.at + 3) + f.size) (row_taken f.bytes.now f.at) (said ((f.at + 3) + f.size)) → Answers limits s at before (said next)
   unfolding tag_faults taken
-  field_row r t j =
-      by-tag (λ z. row_in limits s at z st) (row_taken s at st) (of_row _ _ _ _ _ _ _ t) (of_row _ _ _ _ _ _ _ t) r j
+  field_row t = by-tag (row_in limits f.bytes.now f.at) (row_taken f.bytes.now f.at) (λ st. of_row _ _ _ _ _ _ _ t) (λ st. of_row _ _ _ _ _ _ _ t)
 
-  pub field_end : (r : Judged) → get_or s at 0 ≡ 0x7F → Judges limits s (lowest (end_in size st)) ((at + 3) + size) (end_taken st) r → Judges limits s (field_number limits s at st) (next_at s at) (taken s at st) r
+  pub field_end : get_or f.bytes.now f.at 0 ≡ 0x7F → Adds limits f.bytes.now before (end_in f.size) ((f.at + 3) + f.size) end_taken (said ((f.at + 3) + f.size)) → Answers limits s at before (said next)
   unfolding tag_faults taken
-  field_end r t j =
-      by-tag (λ z. end_in z st) (end_taken st) (of_end _ _ _ _ _ _ _ t) (of_end _ _ _ _ _ _ _ t) r j
+  field_end t = by-tag end_in end_taken (λ st. of_end _ _ _ _ _ _ _ t) (λ st. of_end _ _ _ _ _ _ _ t)
 
-  pub field-other : (get_or s at 0 ≡ 0x01 → ⊥) → (get_or s at 0 ≡ 0x10 → ⊥) → (get_or s at 0 ≡ 0x20 → ⊥) → (get_or s at 0 ≡ 0x30 → ⊥) → (get_or s at 0 ≡ 0x7F → ⊥) → 2 ≡ field_number limits s at st
+  pub field-other : (get_or f.bytes.now f.at 0 ≡ 0x01 → ⊥) → (get_or f.bytes.now f.at 0 ≡ 0x10 → ⊥) → (get_or f.bytes.now f.at 0 ≡ 0x20 → ⊥) → (get_or f.bytes.now f.at 0 ≡ 0x30 → ⊥) → (get_or f.bytes.now f.at 0 ≡ 0x7F → ⊥) → number ≡ 2 → Answers limits s at before (said next)
   unfolding tag_faults
-  field-other a b c d e = sym (ap lowest (of_other (get_or s at 0) _ _ _ _ _ (2 when true ∷ []) a b c d e)) ∙ field-tag limits s at st whole
+  field-other a b c d e two =
+      there (λ st h.
+      refuses
+      (two ∙ sym (ap lowest (of_other (get_or f.bytes.now f.at 0) _ _ _ _ _ (2 when true ∷ []) a b c d e)) ∙ field-tag limits f.bytes.now f.at st whole)
+      (λ z. omega (arith, two)))
 
 -- ---- the walk
 
@@ -117,6 +131,14 @@ module _ (f : ℕ) (limits : Limits) (s : List ℕ) (at : ℕ) (st : State) wher
   unfolding walk
   walk-on ne e = rw (walk, ne_eqb _ _ ne, e)
 
+-- ---- what is said of a result
+
+pub says-err : (limits : Limits) (s : List ℕ) (e : Refused) (known : Known) → verdict_at limits s ≡ refused (number_of e.refusal) e.place → Says limits s (Err e) known
+says-err limits s e known v = record { refuses = λ x q. let p : e ≡ x = cc in v ∙ ap (λ (y : Refused). refused (number_of y.refusal) y.place) p; accepts = λ q. cc }
+
+pub says-ok : (limits : Limits) (s : List ℕ) (known : Known) → Accepts limits s (head_of known) known.offsets → Says limits s (Ok tt) known
+says-ok limits s known a = record { refuses = λ x q. cc; accepts = λ q. a }
+
 -- ---- the pass
 
 -- what is held before the field at a place, and what is left to walk
@@ -129,25 +151,72 @@ pub record Reached (limits : Limits) (s : List ℕ) (at : ℕ) (seen : Seen) : T
   pub enough : length s - at < fuel
   pub same : verdict_at limits s ≡ walk fuel limits s at st
 
-pub begins : (limits : Limits) (s : List ℕ) (seen : Seen) → Sound seen.head 0 → Holds limits s seen nothing → Reached limits s 0 seen
+-- at the first field nothing is known
+nothing-held : (limits : Limits) (s : List ℕ) (known : Known) → Modest limits → Nothing known → Holds limits s (seen known) nothing
+unfolding destination_used index_used rows_at
+nothing-held limits s known modest none =
+    record {
+      stage = none.stage;
+      n = none.n;
+      blocks = none.blocks;
+      rows = none.rows;
+      rows-there = ap (rows_at s known.start) none.rows;
+      sorts = ap (λ (k : ℕ). take k known.sorts) none.blocks;
+      offsets = ap (λ (k : ℕ). map (block_at s) (take k known.offsets)) none.blocks;
+      registers =
+          λ x l g.
+          let i : x - 1 < 4 = omega arith in
+          ap (λ (q : List Bool). get_or q (x - 1) false) none.registers ∙ get_or-replicate 4 (x - 1) false false i;
+      used =
+          λ class number l g.
+          ap (λ (q : List Bool). get_or q (mark class number) false) none.used
+          ∙ get_or-replicate 156 (mark class number) false false (mark-below limits class number modest (record { low = l; high = g }));
+      lie = λ k l. let x : ⊥ = omega (arith, none.blocks) in absurd x;
+      offsets-long = none.offsets;
+      sorts-long = none.sorts;
+      used-long = ap length none.used ∙ length-replicate {A = Bool} 156 false;
+      registers-long = ap length none.registers ∙ length-replicate {A = Bool} 4 false;
+    }
+
+nothing-sound : (known : Known) → Nothing known → Sound (head_of known) 0
+nothing-sound known none =
+    record {
+      fresh = λ z. none.blocks;
+      few = omega (arith, none.n);
+      some_left = omega (arith, none.blocks);
+      complete = λ z. omega (arith, none.n);
+      no_rows = λ y z. none.rows;
+      along = λ z. omega (arith, none.start, none.rows);
+      closed = λ z. let x : ⊥ = omega (arith, none.stage) in absurd x;
+    }
+
+pub begins : (limits : Limits) (s : List ℕ) (at : ℕ) (known : Known) → Modest limits → at ≡ 0 → Nothing known → Reached limits s at (seen known)
 unfolding verdict_at
-begins limits s seen sound h =
-    record { within = omega arith; sound = sound; st = nothing; fuel = suc (length s); holds = h; enough = omega arith; same = refl }
+begins limits s at known modest z none =
+    rw z record {
+      within = omega arith;
+      sound = nothing-sound known none;
+      st = nothing;
+      fuel = suc (length s);
+      holds = nothing-held limits s known modest none;
+      enough = omega arith;
+      same = refl;
+    }
 
 module _ (limits : Limits) (s : List ℕ) (at : ℕ) (seen : Seen) (w : Reached limits s at seen) where
   going : (seen.head.stage ≡ ended → ⊥) → w.st.stage ≡ ended → ⊥
   going ne e = ne (w.holds.stage ∙ e)
 
-  module _ (r : Judged) (ne : seen.head.stage ≡ ended → ⊥) (j : Answers limits s at seen r) where
-    judged : Judges limits s (field_number limits s at w.st) (next_at s at) (taken s at w.st) r
-    judged = j w.st w.holds
+  module _ (r : Judged) (ne : seen.head.stage ≡ ended → ⊥) (l : List ℕ) (same : l ≡ s) (j : Answers limits l at seen r) where
+    step : Judges limits s (field_number limits s at w.st) (next_at s at) (taken s at w.st) r
+    step = subst (λ (x : List ℕ). Answers limits x at seen r) same j w.st w.holds
 
     module _ (z : r.number ≡ 0) where
       fits : next_at s at ≤ length s
-      fits = field_fits limits s at w.st (sym judged.number_is ∙ z)
+      fits = field_fits limits s at w.st (sym step.number_is ∙ z)
 
-      pub falls : length s - r.next < length s - at
-      falls = omega (arith, fits, judged.next-is z)
+      falls : length s - r.next < length s - at
+      falls = omega (arith, fits, step.next-is z)
 
       pub goes_on : Reached limits s r.next r.seen
       goes_on = go w.fuel w.enough w.same
@@ -156,23 +225,26 @@ module _ (limits : Limits) (s : List ℕ) (at : ℕ) (seen : Seen) (w : Reached 
           go zero l e = let x : ⊥ = omega arith in absurd x
           go (suc f) l e =
               record {
-                within = omega (arith, fits, judged.next-is z);
-                sound = judged.sound z;
+                within = omega (arith, fits, step.next-is z);
+                sound = step.sound z;
                 st = taken s at w.st;
                 fuel = f;
-                holds = judged.holds z;
+                holds = step.holds z;
                 enough = omega (arith, falls);
                 same =
-                    e ∙ walk-on f limits s at w.st (going ne) (sym judged.number_is ∙ z)
-                    ∙ ap (λ (i : ℕ). walk f limits s i (taken s at w.st)) (sym (judged.next-is z));
+                    e ∙ walk-on f limits s at w.st (going ne) (sym step.number_is ∙ z)
+                    ∙ ap (λ (i : ℕ). walk f limits s i (taken s at w.st)) (sym (step.next-is z));
               }
 
-    pub says-refused : (head' : Head) (offsets : List ℕ) → (r.number ≡ 0 → ⊥) → Says limits s (record { number = r.number; place = at; head = head' }) offsets
-    says-refused head' offsets nz = record { refuses = λ z. go w.fuel w.enough w.same; accepts = λ z. absurd (nz z) }
+    pub says-refused : (known : Known) (e : Refused) → e.place ≡ at → r.number ≡ number_of e.refusal → Says limits s (Err e) known
+    says-refused known e p q = says-err limits s e known (go w.fuel w.enough w.same)
       where
-        go : (f : ℕ) → length s - at < f → verdict_at limits s ≡ walk f limits s at w.st → verdict_at limits s ≡ refused r.number at
-        go zero l e = let x : ⊥ = omega arith in absurd x
-        go (suc f) l e = e ∙ walk_refused f limits s at w.st (going ne) r.number judged.number_is nz
+        some : r.number ≡ 0 → ⊥
+        some z = let h = number-above e.refusal in omega arith
+
+        go : (f : ℕ) → length s - at < f → verdict_at limits s ≡ walk f limits s at w.st → verdict_at limits s ≡ refused (number_of e.refusal) e.place
+        go zero l v = let x : ⊥ = omega arith in absurd x
+        go (suc f) l v = v ∙ walk_refused f limits s at w.st (going ne) r.number step.number_is some ∙ ap₂ refused q (sym p)
 
   at-end : seen.head.stage ≡ ended → verdict_at limits s ≡ closing s at w.st
   at-end four = go w.fuel w.enough w.same
@@ -181,86 +253,28 @@ module _ (limits : Limits) (s : List ℕ) (at : ℕ) (seen : Seen) (w : Reached 
       go zero l e = let x : ⊥ = omega arith in absurd x
       go (suc f) l e = e ∙ walk-ended f limits s at w.st (sym w.holds.stage ∙ four)
 
-  pub says-surplus : seen.head.stage ≡ ended → at < length s → (head' : Head) (offsets : List ℕ) → Says limits s (record { number = 11; place = at; head = head' }) offsets
+  pub says-surplus : seen.head.stage ≡ ended → at < length s → (known : Known) (e : Refused) → e ≡ record { refusal = SurplusBytes; place = at } → Says limits s (Err e) known
   unfolding closing
-  says-surplus four h head' offsets =
-      let e : closing s at w.st ≡ refused 11 at = simp (lt-ltb _ _ h) in
-      record { refuses = λ z. at-end four ∙ e; accepts = λ z. let x : ⊥ = omega arith in absurd x }
+  says-surplus four h known e is =
+      let behind : closing s at w.st ≡ refused 11 at = simp (lt-ltb _ _ h) in
+      says-err limits s e known (at-end four ∙ behind ∙ ap (λ (x : Refused). refused (number_of x.refusal) x.place) (sym is))
 
-  pub says-accepted : seen.head.stage ≡ ended → length s ≤ at → Says limits s (record { number = 0; place = 0; head = seen.head }) seen.offsets
+  pub accepts-all : seen.head.stage ≡ ended → length s ≤ at → Accepts limits s seen.head seen.offsets
   unfolding closing
-  says-accepted four h =
+  accepts-all four h =
       let e : closing s at w.st ≡ accepted (circuit_of w.st) = simp (le-ltb _ _ h) in
       let all = w.sound.complete four in
       let q : seen.head.n ≡ seen.head.blocks = omega (arith, w.sound.some_left) in
       record {
-        refuses = λ z. absurd (z refl);
-        accepts =
-            λ z.
-            record {
-              circuit = circuit_of w.st;
-              is = at-end four ∙ e;
-              n = w.holds.n;
-              blocks = q ∙ w.holds.blocks;
-              rows = w.holds.rows;
-              few = w.sound.few;
-              long = w.holds.offsets-long;
-              there = ap (λ (k : ℕ). map (block_at s) (take k seen.offsets)) q ∙ w.holds.offsets;
-              lie = λ k l. w.holds.lie k (omega (arith, q));
-              rows-there = w.holds.rows-there;
-              rows_end = omega (arith, w.sound.closed four, w.within);
-            };
+        circuit = circuit_of w.st;
+        is = at-end four ∙ e;
+        n = w.holds.n;
+        blocks = q ∙ w.holds.blocks;
+        rows = w.holds.rows;
+        few = w.sound.few;
+        long = w.holds.offsets-long;
+        there = ap (λ (k : ℕ). map (block_at s) (take k seen.offsets)) q ∙ w.holds.offsets;
+        lie = λ k l. w.holds.lie k (omega (arith, q));
+        rows-there = w.holds.rows-there;
+        rows_end = omega (arith, w.sound.closed four, w.within);
       }
-
--- ---- the answer
-
-module _ (limits : Limits) (s : List ℕ) (r : Outcome) (offsets : List ℕ) (says : Says limits s r offsets) where
-  pub answer-refused : (r.number ≡ 0 → ⊥) → refused_at r.number r.place ≡ answer_at limits s
-  unfolding answer_at answer_to
-  answer-refused nz = ap answer_to (sym (says.refuses nz))
-
-  pub answer-accepted : r.number ≡ 0 → accepted_with r.head.n r.head.rows ≡ answer_at limits s
-  unfolding answer_at answer_to
-  answer-accepted z =
-      let a = says.accepts z in
-      ap₂ accepted_with a.n a.rows ∙ ap answer_to (sym a.is)
-
--- ---- the beginning
-
-pub nothing-held : (limits : Limits) (s offsets : List ℕ) (sorts used registers : List Bool) → Modest limits → length offsets ≡ 400 → length sorts ≡ 400 → used ≡ replicate 156 false → registers ≡ replicate 4 false → Holds limits s (seen_of (head_of opening 0 0 0 0) offsets sorts used registers) nothing
-unfolding destination_used index_used rows_at
-nothing-held limits s offsets sorts used registers modest o so u r =
-    record {
-      stage = refl;
-      n = refl;
-      blocks = refl;
-      rows = refl;
-      rows-there = refl;
-      sorts = refl;
-      offsets = refl;
-      registers =
-          λ x l g.
-          let i : x - 1 < 4 = omega arith in
-          ap (λ (q : List Bool). get_or q (x - 1) false) r ∙ get_or-replicate 4 (x - 1) false false i;
-      used =
-          λ class number h l.
-          ap (λ (q : List Bool). get_or q (mark class number) false) u
-          ∙ get_or-replicate 156 (mark class number) false false (mark-below limits class number modest (record { low = h; high = l }));
-      lie = λ k h. let x : ⊥ = omega arith in absurd x;
-      offsets-long = o;
-      sorts-long = so;
-      used-long = ap length u ∙ length-replicate {A = Bool} 156 false;
-      registers-long = ap length r ∙ length-replicate {A = Bool} 4 false;
-    }
-
-pub nothing-sound : Sound (head_of opening 0 0 0 0) 0
-nothing-sound =
-    record {
-      fresh = λ z. refl;
-      few = omega arith;
-      some_left = omega arith;
-      complete = λ z. omega arith;
-      no_rows = λ y z. refl;
-      along = λ z. omega arith;
-      closed = λ z. let x : ⊥ = omega arith in absurd x;
-    }

@@ -1,12 +1,13 @@
 -- What `judge` hands to the calls. Not part of what a reader has to believe.
-use Rattle.std.specs.Prelude.{ℕ, ◌+◌, ◌*◌, ◌≤◌, ◌<◌, ◌≡◌, List, map, length, get_or, take}
+use Rattle.std.specs.Prelude.{ℕ, ◌+◌, ◌*◌, ◌≤◌, ◌<◌, ◌≡◌, List, map, length, get_or, take, Result, Ok, Err}
 use Rattle.refusals.specs.declared.Limits.{Limits}
+use Rattle.refusals.specs.declared.Refused.{Refused}
+use Rattle.refusals.specs.Refusals.{number_of}
 use Rattle.blockfield.specs.Marked.{Lies}
 use Rattle.decoding.specs.Decoded.{Circuit, State, next_at, block_at}
-use Rattle.decoding.specs.Held.{bare, rows_at, Seen, Judged, Holds, Judges}
-use Rattle.decoding.specs.declared.Head.{Head}
+use Rattle.decoding.specs.Held.{bare, rows_at, Head, Seen, Judged, Holds, Judges, head_of}
+use Rattle.decoding.specs.declared.known.Known.{Known}
 use Rattle.circuit.specs.Circuit.{field_number, taken, verdict_at, refused, accepted}
-use Rattle.circuit.specs.declared.Outcome.{Outcome}
 
 -- for every state that is held, the field at a place is told by its number, and what is held then is the state with the field added
 abbrev pub Answers : Limits → List ℕ → ℕ → Seen → Judged → Type 0
@@ -28,6 +29,6 @@ pub record Accepts (limits : Limits) (s : List ℕ) (head : Head) (offsets : Lis
   pub rows_end : head.start + 8 * head.rows + 3 ≡ length s
 
 -- the verdict, and of an accepted circuit where its blocks and rows stand
-pub record Says (limits : Limits) (s : List ℕ) (r : Outcome) (offsets : List ℕ) : Type 0 where
-  pub refuses : (r.number ≡ 0 → ⊥) → verdict_at limits s ≡ refused r.number r.place
-  pub accepts : r.number ≡ 0 → Accepts limits s r.head offsets
+pub record Says (limits : Limits) (s : List ℕ) (r : Result (Unit {0}) Refused) (known : Known) : Type 0 where
+  pub refuses : (e : Refused) → r ≡ Err e → verdict_at limits s ≡ refused (number_of e.refusal) e.place
+  pub accepts : r ≡ Ok tt → Accepts limits s (head_of known) known.offsets

@@ -1,2 +1,3 @@
 pub mod Circuit
 pub mod Judged
+pub mod Read

@@ -1,2 +1,3 @@
 pub mod Connectors
+pub mod Codes
 pub mod Named

@@ -3,6 +3,7 @@ use mathlib.Core.Logic.{◌↔◌}
 use mathlib.Core.Path.{◌≡◌, refl, ap, ap₂, sym, ◌∙◌, subst}
 use mathlib.Core.Bool.{Bool, true, false, ◌&&◌, ◌||◌, cond, false≢true}
 use mathlib.Core.List.{List, [], ◌∷◌, ◌++◌}
+use Rattle.std.proofs.Math.Bool.{or-false, or-true, or_assoc}
 use Prim.Native.Nat.{ℕ, zero, suc, ◌+◌, ◌-◌, ◌≤◌, ◌<◌}
 use native.Mathlib.Omega.{arith}
 use lib.Dec.{eqb, ltb}
@@ -23,18 +24,6 @@ use Rattle.fields.specs.Fields.{limit_of}
 use Rattle.fields.specs.Marks.{base, mark}
 use Rattle.fields.proofs.Laws.{Known, mark-below}
 use Rattle.decoding.specs.Decoded.{Block, Row, index_of, same, index_used, destination_used}
-
-or-none : (b : Bool) → b ≡ (b || false)
-or-none true = refl
-or-none false = refl
-
-or-true : (b : Bool) → true ≡ (b || true)
-or-true true = refl
-or-true false = refl
-
-or-behind : (a y z w : Bool) → y ≡ (z || w) → (a || y) ≡ ((a || z) || w)
-or-behind true y z w e = refl
-or-behind false y z w e = e
 
 -- ---- destinations
 
@@ -82,8 +71,10 @@ module _ (limits : Limits) (modest : Modest limits) where
 
   used-snoc : (c m : ℕ) (l : List Row) (r : Row) → destination_used c m (l ++ (r ∷ [])) ≡ (destination_used c m l || (eqb r.class c && eqb r.number m))
   unfolding destination_used
-  used-snoc c m [] r = sym (or-none (eqb r.class c && eqb r.number m))
-  used-snoc c m (x ∷ l) r = or-behind (eqb x.class c && eqb x.number m) _ _ _ (used-snoc c m l r)
+  used-snoc c m [] r = or-false (eqb r.class c && eqb r.number m)
+  used-snoc c m (x ∷ l) r =
+      ap (λ (b : Bool). (eqb x.class c && eqb x.number m) || b) (used-snoc c m l r)
+      ∙ sym (or_assoc (eqb x.class c && eqb x.number m) _ _)
 
   -- a row's mark is set, and the marks say again which destinations are used
   pub row-marked : (used : List Bool) (rows : List Row) (r : Row)
@@ -108,21 +99,23 @@ module _ (limits : Limits) (modest : Modest limits) where
           let b : i < length used = subst (λ (k : ℕ). i < k) (sym long) (mark-below limits r.class r.number modest d) in
           ap (λ (k : ℕ). get_or (set used i true) k false) j
           ∙ get_or-set_same used i true false b
-          ∙ or-true (destination_used c m rows)
+          ∙ sym (or-true (destination_used c m rows))
           ∙ ap (λ (x : Bool). destination_used c m rows || x) (sym e)
       go false e =
           let ne : (mark c m ≡ i → ⊥) = λ q. let both = mark-own c m r.class r.number d' d q in false≢true (sym e ∙ ap₂ (λ (x y : Bool). x && y) (eq-eqb _ _ (sym both.0)) (eq-eqb _ _ (sym both.1))) in
           get_or-set_other used i (mark c m) true false ne
           ∙ held c m low high
-          ∙ or-none (destination_used c m rows)
+          ∙ sym (or-false (destination_used c m rows))
           ∙ ap (λ (x : Bool). destination_used c m rows || x) (sym e)
 
 -- ---- shift registers
 
 index-snoc : (x : ℤ) (l : List Block) (b : Block) → index_used x (l ++ (b ∷ [])) ≡ (index_used x l || (eqb b.kind shift_register && same (index_of b) x))
 unfolding index_used
-index-snoc x [] b = sym (or-none (eqb b.kind shift_register && same (index_of b) x))
-index-snoc x (c ∷ l) b = or-behind (eqb c.kind shift_register && same (index_of c) x) _ _ _ (index-snoc x l b)
+index-snoc x [] b = or-false (eqb b.kind shift_register && same (index_of b) x)
+index-snoc x (c ∷ l) b =
+    ap (λ (t : Bool). (eqb c.kind shift_register && same (index_of c) x) || t) (index-snoc x l b)
+    ∙ sym (or_assoc (eqb c.kind shift_register && same (index_of c) x) _ _)
 
 -- what the four marks say of the blocks
 abbrev pub Marks : List Bool → List Block → Type 0
@@ -131,7 +124,7 @@ Marks registers blocks = (x : ℕ) → 1 ≤ x → x ≤ 4 → get_or registers 
 -- a block that is no shift register
 pub register-same : (registers : List Bool) (blocks : List Block) (b : Block) → (b.kind ≡ shift_register → ⊥) → Marks registers blocks → Marks registers (blocks ++ (b ∷ []))
 register-same registers blocks b ne held x l g =
-    held x l g ∙ or-none (index_used (pos x) blocks)
+    held x l g ∙ sym (or-false (index_used (pos x) blocks))
     ∙ ap (λ (t : Bool). index_used (pos x) blocks || (t && same (index_of b) (pos x))) (sym (ne_eqb b.kind shift_register ne))
     ∙ sym (index-snoc (pos x) blocks b)
 
@@ -160,12 +153,12 @@ register-marked registers blocks b y long k p ly gy held x l g =
         let r : y - 1 < length registers = omega arith in
         ap (λ (k : ℕ). get_or (set registers (y - 1) true) k false) i
         ∙ get_or-set_same registers (y - 1) true false r
-        ∙ or-true (index_used (pos x) blocks)
+        ∙ sym (or-true (index_used (pos x) blocks))
         ∙ ap (λ (v : Bool). index_used (pos x) blocks || v) (sym ((same-iff (pos y) (pos x)).1 (ap pos q)))
     go false e =
         let ne = eqb-false y x e in
         let i : (x - 1 ≡ y - 1 → ⊥) = λ q. let z : y ≡ x = omega arith in ne z in
         get_or-set_other registers (y - 1) (x - 1) true false i
         ∙ held x l g
-        ∙ or-none (index_used (pos x) blocks)
+        ∙ sym (or-false (index_used (pos x) blocks))
         ∙ ap (λ (v : Bool). index_used (pos x) blocks || v) (sym ((fails (same (pos y) (pos x))).1 (λ t. ne (ap over ((same-iff (pos y) (pos x)).0 t)))))

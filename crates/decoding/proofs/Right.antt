@@ -1,6 +1,6 @@
 -- What a field without a fault says of itself: of header, label and end all of it, both ways. Assumes nothing.
 use mathlib.Core.Logic.{◌↔◌}
-use mathlib.Core.Path.{◌≡◌, refl}
+use mathlib.Core.Path.{◌≡◌, refl, sym, ◌∙◌}
 use mathlib.Core.Bool.{Bool, true, false, not, ◌&&◌}
 use mathlib.Core.List.{List}
 use Prim.Native.Nat.{ℕ, ◌+◌, ◌≤◌, ◌<◌}
@@ -88,9 +88,10 @@ pub record BlockRight (s : List ℕ) (at size stage n count : ℕ) : Type 0 wher
   pub room : count < n
   pub is-allowed : allowed (kind_at s at) (parameters_at s at (kind_of (kind_at s at))) ≡ true
 
-pub block-right : (limits : Limits) (s : List ℕ) (at size stage n count : ℕ) (sorts : List Bool) (used : Bool) → lowest (block_faults limits s at size stage n count sorts used) ≡ 0 → BlockRight s at size stage n count
+pub block-right : (limits : Limits) {s : List ℕ} {at size stage n count : ℕ} (sorts : List Bool) (used : Bool) {number : ℕ} → number ≡ lowest (block_faults limits s at size stage n count sorts used) → number ≡ 0 → BlockRight s at size stage n count
 unfolding block_faults wrong_length wrong_kind
-block-right limits s at size stage n count sorts used e =
+block-right limits {s} {at} {size} {stage} {n} {count} sorts used told z =
+    let e = sym told ∙ z in
     let kind = kind_at s at in
     let none = (none-holds (block_faults limits s at size stage n count sorts used) refl).0 e in
     let stages = (or-false (eqb stage opening) (eqb stage among_rows)).0 none.0 in
@@ -110,9 +111,10 @@ pub record RowRight (limits : Limits) (s : List ℕ) (at size n count : ℕ) : T
   pub complete : n ≤ count
   pub is_known : unknown limits (class_at s at) (number_in s at) ≡ false
 
-pub row-right : (limits : Limits) (s : List ℕ) (at size stage n count : ℕ) (sorts : List Bool) (used : Bool) → lowest (row_faults limits s at size stage n count sorts used) ≡ 0 → RowRight limits s at size n count
+pub row-right : {limits : Limits} {s : List ℕ} {at size : ℕ} (stage : ℕ) {n count : ℕ} (sorts : List Bool) (used : Bool) {number : ℕ} → number ≡ lowest (row_faults limits s at size stage n count sorts used) → number ≡ 0 → RowRight limits s at size n count
 unfolding row_faults
-row-right limits s at size stage n count sorts used e =
+row-right {limits} {s} {at} {size} stage {n} {count} sorts used told z =
+    let e = sym told ∙ z in
     let none = (none-holds (row_faults limits s at size stage n count sorts used) refl).0 e in
     record {
       size_is = eqb-true size 5 ((not_is (eqb size 5)).0 ((or-false (eqb stage opening) (not (eqb size 5))).0 none.0).1);

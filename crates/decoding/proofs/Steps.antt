@@ -1,4 +1,5 @@
 -- What the pass holds, from field to field. Assumes nothing.
+use Rattle.std.specs.Prelude.{Result, Err}
 use mathlib.Core.Path.{◌≡◌, refl, ap, ap₂, sym, ◌∙◌, subst}
 use mathlib.Core.Bool.{Bool, true, false, cond, ◌&&◌, ◌||◌}
 use mathlib.Core.List.{List, [], ◌∷◌, ◌++◌, map}
@@ -10,12 +11,16 @@ use lib.ListN.{length, get_or, take, set, length-append, length-set}
 use lib.IntN.{ℤ, pos}
 use lib.Seq.{take-suc-set, get_or-set_same, get_or-set_other}
 use borrow.Author.Tests.{eqb-true, eqb-false}
+use Rattle.std.proofs.lemmas.List.{map-append}
 use Rattle.words.specs.Bytes.{number_at}
 use Rattle.words.specs.Signed.{over}
 use Rattle.words.proofs.Bounds.{amount-between, count-is}
 use Rattle.kinds.specs.Kinds.{kinds, kind_of, is_analog, allowed, indexed}
 use Rattle.refusals.specs.Faults.{lowest}
 use Rattle.refusals.specs.Stages.{among_blocks, after_block, among_rows, ended}
+use Rattle.refusals.specs.Refusals.{number_of, number_in as number_told}
+use Rattle.refusals.specs.declared.Refusal.{Refusal}
+use Rattle.refusals.proofs.Numbers.{number-above}
 use Rattle.refusals.specs.Modest.{Modest}
 use Rattle.refusals.specs.declared.Limits.{Limits}
 use Rattle.blockfield.specs.BlockField.{kind_at, parameters_at, signed_at, signeds_at, index_from, shift_register, block_faults}
@@ -25,18 +30,12 @@ use Rattle.fields.specs.Fields.{header_faults, label_faults, row_faults, end_fau
 use Rattle.fields.specs.Marks.{mark}
 use Rattle.fields.proofs.Laws.{known-destination}
 use Rattle.decoding.specs.Decoded.{header_in, block_in, label_in, row_in, end_in, Block, Row, State, is_analog_block, index_of, same, index_used, destination_used, content_at, block_at, row_at, with_label, labelled, header_taken, block_taken, label_taken, row_taken, end_taken}
-use Rattle.decoding.specs.Held.{bare, rows_at, registers_after, Seen, Judged, judged_of, Judges, Sound, Holds}
-use Rattle.decoding.specs.declared.Head.{Head}
-use Rattle.decoding.specs.declared.Step.{Step}
+use Rattle.decoding.specs.Held.{bare, rows_at, registers_after, Head, Seen, Judged, judged, Judges, Sound, Holds}
 use Rattle.decoding.proofs.Agree.{block-agree, row-agree, used-agree}
 use Rattle.decoding.proofs.Marked.{Marks, row-marked, register-same, register-marked}
 use Rattle.decoding.proofs.Right.{header-iff, label-iff, end-iff, block-right, row-right}
 
 -- ---- lists
-
-map_snoc : {A B : Type 0} (f : A → B) (l : List A) (x : A) → map f (l ++ (x ∷ [])) ≡ map f l ++ (f x ∷ [])
-map_snoc f [] x = refl
-map_snoc f (y ∷ l) x = ap (λ r. f y ∷ r) (map_snoc f l x)
 
 -- what holds of each element of a list up to a place holds, after a store there, up to the next
 one_more : (P : ℕ → Type 0) (l : List ℕ) (i v : ℕ) → i < length l → ((k : ℕ) → k < i → P (get_or l k 0)) → P v → (k : ℕ) → k < i + 1 → P (get_or (set l i v) k 0)
@@ -151,19 +150,21 @@ module _ (limits : Limits) (s : List ℕ) (at size : ℕ) (seen : Seen) (st : St
 
 -- ---- a judgement that refuses
 
-refuses : (limits : Limits) (s : List ℕ) (number next : ℕ) (then : State) (r : Judged) → r.number ≡ number → (r.number ≡ 0 → ⊥) → Judges limits s number next then r
-refuses limits s number next then r e ne =
+pub refuses : {limits : Limits} {s : List ℕ} {number next : ℕ} {then : State} {r : Judged} → r.number ≡ number → (r.number ≡ 0 → ⊥) → Judges limits s number next then r
+refuses e ne =
     record { number_is = e; next-is = λ z. absurd (ne z); holds = λ z. absurd (ne z); sound = λ z. absurd (ne z) }
 
-pub faulty-judges : (limits : Limits) (s : List ℕ) (number next : ℕ) (then : State) (r : Step) (k at : ℕ) (head : Head) (offsets : List ℕ) (sorts used registers : List Bool) → r ≡ record { number = k; next = at; head = head } → k ≡ number → (k ≡ 0 → ⊥) → Judges limits s number next then (judged_of r offsets sorts used registers)
-faulty-judges limits s number next then r k at head offsets sorts used registers e q ne =
-    let n : r.number ≡ k = ap (λ (x : Step). x.number) e in
-    refuses limits s number next then (judged_of r offsets sorts used registers) (n ∙ q) (λ z. ne (sym n ∙ z))
+-- by a result that is passed on
+pub passes-on : {A : Type 0} {told : Result A Refusal} {r : Result (Unit {0}) Refusal} {refusal : Refusal} {limits : Limits} {s : List ℕ} {number next after : ℕ} {then : State} {seen : Seen}
+    → told ≡ Err refusal → r ≡ Err refusal → number_told told ≡ number → Judges limits s number next then (judged r after seen)
+passes-on {r = r} {refusal = refusal} was is number =
+    let told : number_told r ≡ number_of refusal = ap number_told is in
+    refuses (told ∙ sym (ap number_told was) ∙ number) (λ z. omega (arith, told, number-above refusal))
 
 -- ---- what a field without a fault leaves held
 
-abbrev pub head_of : ℕ → ℕ → ℕ → ℕ → ℕ → Head
-head_of stage n blocks rows start = record { stage = stage; n = n; blocks = blocks; rows = rows; start = start }
+abbrev pub stands : ℕ → ℕ → ℕ → ℕ → ℕ → Head
+stands stage n blocks rows start = record { stage = stage; n = n; blocks = blocks; rows = rows; start = start }
 
 -- the rows begin anew, where there are none
 no-rows-there : (limits : Limits) (s : List ℕ) (seen : Seen) (st : State) → Holds limits s seen st → seen.head.rows ≡ 0 → (start : ℕ) → rows_at s start seen.head.rows ≡ st.rows
@@ -171,8 +172,8 @@ unfolding rows_at
 no-rows-there limits s seen st h z start = rw z (rw z at h.rows-there)
 
 module _ (limits : Limits) (s : List ℕ) (at size : ℕ) (fit : (at + 3) + size ≤ length s) (seen : Seen) (sound : Sound seen.head at) (st : State) (h : Holds limits s seen st) where
-  pub header-taken : Modest limits → (x : ℕ) → x ≡ number_at 2 s (at + 4) → 0 ≡ header_here limits s at size seen st h → Judges limits s (header_number limits s at size seen st h) ((at + 3) + size) (header_taken s at st) (record { number = 0; next = (at + 3) + size; seen = record { head = head_of among_blocks x seen.head.blocks seen.head.rows ((at + 3) + size); offsets = seen.offsets; sorts = seen.sorts; used = seen.used; registers = seen.registers } })
-  header-taken modest x q e =
+  pub header-taken : Modest limits → (x start : ℕ) → x ≡ number_at 2 s (at + 4) → start ≡ (at + 3) + size → 0 ≡ header_here limits s at size seen st h → Judges limits s (header_number limits s at size seen st h) ((at + 3) + size) (header_taken s at st) (record { number = 0; next = (at + 3) + size; seen = record { head = stands among_blocks x seen.head.blocks seen.head.rows start; offsets = seen.offsets; sorts = seen.sorts; used = seen.used; registers = seen.registers } })
+  header-taken modest x start q behind e =
       let right = (header-iff limits s at size seen.head.stage).0 (sym e) in
       let stage = right.first in
       let none : seen.head.blocks ≡ 0 = sound.fresh stage in
@@ -187,7 +188,7 @@ module _ (limits : Limits) (s : List ℕ) (at size : ℕ) (fit : (at + 3) + size
               n = q;
               blocks = h.blocks;
               rows = h.rows;
-              rows-there = no-rows-there limits s seen st h no_rows ((at + 3) + size);
+              rows-there = no-rows-there limits s seen st h no_rows start;
               sorts = h.sorts;
               offsets = h.offsets;
               registers = h.registers;
@@ -206,7 +207,7 @@ module _ (limits : Limits) (s : List ℕ) (at size : ℕ) (fit : (at + 3) + size
               some_left = omega (arith, none);
               complete = λ y. let x : ⊥ = omega arith in absurd x;
               no_rows = λ y w. no_rows;
-              along = λ y. omega (arith, no_rows);
+              along = λ y. omega (arith, no_rows, behind);
               closed = λ y. let x : ⊥ = omega arith in absurd x;
             };
       }
@@ -235,9 +236,9 @@ module _ (limits : Limits) (s : List ℕ) (at size : ℕ) (fit : (at + 3) + size
           ap (λ (b : Bool). get_or (cond b (set seen.registers (index_mark s at) true) seen.registers) (x - 1) false) e
           ∙ register-same seen.registers st.blocks (block_at s at) (eqb-false _ _ e) h.registers x l g
 
-  pub block-taken : (seen.head.stage ≡ ended → ⊥) → (ρ : List Bool) → ρ ≡ registers_after s at seen.registers → (x : Bool) → x ≡ is_analog (kind_of (kind_at s at)).output → 0 ≡ block_here limits s at size seen st h → Judges limits s (block_number limits s at size seen st h) ((at + 3) + size) (block_taken s at st) (record { number = 0; next = (at + 3) + size; seen = record { head = head_of after_block seen.head.n (seen.head.blocks + 1) seen.head.rows ((at + 3) + size); offsets = set seen.offsets seen.head.blocks at; sorts = set seen.sorts seen.head.blocks x; used = seen.used; registers = ρ } })
-  block-taken going ρ ρ-is x q e =
-      let right = block-right limits s at size seen.head.stage seen.head.n seen.head.blocks seen.sorts _ (sym e) in
+  pub block-taken : (seen.head.stage ≡ ended → ⊥) → (start : ℕ) → start ≡ (at + 3) + size → (ρ : List Bool) → ρ ≡ registers_after s at seen.registers → (x : Bool) → x ≡ is_analog (kind_of (kind_at s at)).output → 0 ≡ block_here limits s at size seen st h → Judges limits s (block_number limits s at size seen st h) ((at + 3) + size) (block_taken s at st) (record { number = 0; next = (at + 3) + size; seen = record { head = stands after_block seen.head.n (seen.head.blocks + 1) seen.head.rows start; offsets = set seen.offsets seen.head.blocks at; sorts = set seen.sorts seen.head.blocks x; used = seen.used; registers = ρ } })
+  block-taken going start behind ρ ρ-is x q e =
+      let right = block-right limits seen.sorts _ e refl in
       let left = right.room in
       let few = sound.few in
       let room : seen.head.blocks < length seen.sorts = omega (arith, h.sorts-long) in
@@ -256,16 +257,16 @@ module _ (limits : Limits) (s : List ℕ) (at size : ℕ) (fit : (at + 3) + size
               n = h.n;
               blocks = omega (arith, longer, h.blocks);
               rows = h.rows;
-              rows-there = no-rows-there limits s seen st h no_rows ((at + 3) + size);
+              rows-there = no-rows-there limits s seen st h no_rows start;
               sorts =
                   rw add-one (take-suc-set seen.sorts seen.head.blocks x room)
                   ∙ ap₂ (λ (l : List Bool) (y : Bool). l ++ (y ∷ [])) h.sorts q
-                  ∙ sym (map_snoc is_analog_block st.blocks (block_at s at));
+                  ∙ sym (map-append is_analog_block st.blocks (block_at s at ∷ []));
               offsets =
                   rw add-one (ap (map (block_at s)) (take-suc-set seen.offsets seen.head.blocks at room'))
-                  ∙ map_snoc (block_at s) (take seen.head.blocks seen.offsets) at
+                  ∙ map-append (block_at s) (take seen.head.blocks seen.offsets) (at ∷ [])
                   ∙ ap (λ (l : List Block). l ++ (block_at s at ∷ [])) h.offsets
-                  ∙ sym (map_snoc bare st.blocks (block_at s at));
+                  ∙ sym (map-append bare st.blocks (block_at s at ∷ []));
               registers = registers-held ρ ρ-is right.is-allowed;
               used = h.used;
               lie = one_more (Lies s) seen.offsets seen.head.blocks at room' h.lie lies;
@@ -282,14 +283,14 @@ module _ (limits : Limits) (s : List ℕ) (at size : ℕ) (fit : (at + 3) + size
               some_left = omega (arith, left);
               complete = λ y. let x : ⊥ = omega arith in absurd x;
               no_rows = λ y w. no_rows;
-              along = λ y. omega (arith, no_rows);
+              along = λ y. omega (arith, no_rows, behind);
               closed = λ y. let x : ⊥ = omega arith in absurd x;
             };
       }
 
-  pub row-taken : Modest limits → (seen.head.stage ≡ ended → ⊥) → (x : ℕ) → x ≡ mark (class_at s at) (number_in s at) → 0 ≡ row_here limits s at size seen st h → Judges limits s (row_number limits s at size seen st h) ((at + 3) + size) (row_taken s at st) (record { number = 0; next = (at + 3) + size; seen = record { head = head_of among_rows seen.head.n seen.head.blocks (seen.head.rows + 1) seen.head.start; offsets = seen.offsets; sorts = seen.sorts; used = set seen.used x true; registers = seen.registers } })
+  pub row-taken : Modest limits → (seen.head.stage ≡ ended → ⊥) → (x : ℕ) → x ≡ mark (class_at s at) (number_in s at) → 0 ≡ row_here limits s at size seen st h → Judges limits s (row_number limits s at size seen st h) ((at + 3) + size) (row_taken s at st) (record { number = 0; next = (at + 3) + size; seen = record { head = stands among_rows seen.head.n seen.head.blocks (seen.head.rows + 1) seen.head.start; offsets = seen.offsets; sorts = seen.sorts; used = set seen.used x true; registers = seen.registers } })
   row-taken modest going x q e =
-      let right = row-right limits s at size seen.head.stage seen.head.n seen.head.blocks seen.sorts _ (sym e) in
+      let right = row-right seen.head.stage seen.sorts _ e refl in
       let d = known-destination limits (class_at s at) (number_in s at) right.is_known in
       let longer = length-append st.rows (row_at s at ∷ []) in
       let along = sound.along going in
@@ -334,8 +335,8 @@ module _ (limits : Limits) (s : List ℕ) (at size : ℕ) (fit : (at + 3) + size
       }
 
 module _ (limits : Limits) (s : List ℕ) (at size : ℕ) (seen : Seen) (sound : Sound seen.head at) (st : State) (h : Holds limits s seen st) where
-  pub label-taken : 0 ≡ label_here limits s at size seen st h → Judges limits s (label_number limits s at size seen st h) ((at + 3) + size) (label_taken s at st) (record { number = 0; next = (at + 3) + size; seen = record { head = head_of among_blocks seen.head.n seen.head.blocks seen.head.rows ((at + 3) + size); offsets = seen.offsets; sorts = seen.sorts; used = seen.used; registers = seen.registers } })
-  label-taken e =
+  pub label-taken : (start : ℕ) → start ≡ (at + 3) + size → 0 ≡ label_here limits s at size seen st h → Judges limits s (label_number limits s at size seen st h) ((at + 3) + size) (label_taken s at st) (record { number = 0; next = (at + 3) + size; seen = record { head = stands among_blocks seen.head.n seen.head.blocks seen.head.rows start; offsets = seen.offsets; sorts = seen.sorts; used = seen.used; registers = seen.registers } })
+  label-taken start behind e =
       let stage = ((label-iff size seen.head.stage).0 (sym e)).after in
       let x = content_at s at in
       let no_rows : seen.head.rows ≡ 0 = sound.no_rows (λ y. omega (arith, stage)) (λ y. omega (arith, stage)) in
@@ -349,7 +350,7 @@ module _ (limits : Limits) (s : List ℕ) (at size : ℕ) (seen : Seen) (sound :
               n = h.n;
               blocks = h.blocks ∙ sym (labelled-length x st.blocks);
               rows = h.rows;
-              rows-there = no-rows-there limits s seen st h no_rows ((at + 3) + size);
+              rows-there = no-rows-there limits s seen st h no_rows start;
               sorts = h.sorts ∙ sym (labelled-map is_analog_block x (λ b. refl) st.blocks);
               offsets = h.offsets ∙ sym (labelled-map bare x (λ b. refl) st.blocks);
               registers = λ y l g. h.registers y l g ∙ sym (labelled-index (pos y) x st.blocks);
@@ -368,12 +369,12 @@ module _ (limits : Limits) (s : List ℕ) (at size : ℕ) (seen : Seen) (sound :
               some_left = sound.some_left;
               complete = λ y. let x : ⊥ = omega arith in absurd x;
               no_rows = λ y w. no_rows;
-              along = λ y. omega (arith, no_rows);
+              along = λ y. omega (arith, no_rows, behind);
               closed = λ y. let x : ⊥ = omega arith in absurd x;
             };
       }
 
-  pub end-taken : (seen.head.stage ≡ ended → ⊥) → 0 ≡ end_here limits s at size seen st h → Judges limits s (end_number limits s at size seen st h) ((at + 3) + size) (end_taken st) (record { number = 0; next = (at + 3) + size; seen = record { head = head_of ended seen.head.n seen.head.blocks seen.head.rows seen.head.start; offsets = seen.offsets; sorts = seen.sorts; used = seen.used; registers = seen.registers } })
+  pub end-taken : (seen.head.stage ≡ ended → ⊥) → 0 ≡ end_here limits s at size seen st h → Judges limits s (end_number limits s at size seen st h) ((at + 3) + size) (end_taken st) (record { number = 0; next = (at + 3) + size; seen = record { head = stands ended seen.head.n seen.head.blocks seen.head.rows seen.head.start; offsets = seen.offsets; sorts = seen.sorts; used = seen.used; registers = seen.registers } })
   end-taken going e =
       let right = (end-iff size seen.head.stage seen.head.n seen.head.blocks).0 (sym e) in
       let along = sound.along going in

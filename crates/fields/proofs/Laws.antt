@@ -1,32 +1,24 @@
 -- Laws of destinations, and of the connector of a row. Assumes nothing.
 use mathlib.Core.Path.{◌≡◌, refl, sym, ap, ◌∙◌, subst}
 use mathlib.Core.Bool.{Bool, true, false, not, ◌&&◌}
-use Prim.Native.Nat.{ℕ, zero, suc, ◌+◌, ◌*◌, ◌/◌, ◌%◌, ◌^◌, ◌≤◌, ◌<◌}
+use Prim.Native.Nat.{ℕ, zero, suc, ◌≤◌, ◌<◌}
 use native.Mathlib.Omega.{arith}
-use lib.Bits.{bit_and}
 use lib.Dec.{eqb, leb, ltb}
 use mathlib.Core.List.{List}
-use borrow.Author.Tests.{ltb-false, eqb-false, lt-leb}
-use Rattle.words.proofs.Masks.{low-three-bits, low-seven-bits}
+use borrow.Author.Tests.{ltb-false, eqb-false, ne_eqb, lt-leb, lt-ltb}
 use Rattle.refusals.proofs.Tests.{or-false}
 use Rattle.refusals.specs.Modest.{Modest}
 use Rattle.refusals.specs.declared.Limits.{Limits}
-use Rattle.connectors.specs.Connectors.{Connector, class_of, is_inverted, member, takes, inverts, least, greatest, names_block, misfits, wrong_sort, wrong, later, connector_at}
+use Rattle.connectors.specs.Connectors.{Connector, class_of, is_inverted, member, takes, inverts, least, greatest, names_block, misfits, wrong_sort, wrong, later}
 use Rattle.connectors.specs.Named.{six_or_seven}
-use Rattle.connectors.proofs.Laws.{same_at, names-greatest, none-wrong, is-wrong}
-use Rattle.fields.specs.Fields.{limit_of, spot_of, unknown, class_at}
+use Rattle.connectors.proofs.Laws.{names-greatest, none-wrong, is-wrong}
+use Rattle.fields.specs.declared.destination.Destination.{Destination}
+use Rattle.fields.specs.declared.destination.Destination.TheVariants.{Output, Flag, AnalogOutput, AnalogFlag}
+use Rattle.fields.specs.Codes.{class_code}
+use Rattle.fields.specs.Fields.{limit_of, spot_of, unknown}
 use Rattle.fields.specs.Marks.{base, mark}
 
 -- ---- destinations
-
-pub limit-other : (limits : Limits) (k : ℕ) → (k ≡ 1 → ⊥) → (k ≡ 2 → ⊥) → (k ≡ 3 → ⊥) → (k ≡ 4 → ⊥) → limit_of limits k ≡ 0
-unfolding limit_of
-limit-other limits zero q m aq am = refl
-limit-other limits (suc zero) q m aq am = absurd (q refl)
-limit-other limits (suc (suc zero)) q m aq am = absurd (m refl)
-limit-other limits (suc (suc (suc zero))) q m aq am = absurd (aq refl)
-limit-other limits (suc (suc (suc (suc zero)))) q m aq am = absurd (am refl)
-limit-other limits (suc (suc (suc (suc (suc k))))) q m aq am = refl
 
 -- a number that a destination of a class may have
 pub record Known (limits : Limits) (class number : ℕ) : Type 0 where
@@ -60,31 +52,29 @@ mark-below limits (suc (suc (suc zero))) m l d = let b = d.high in let x = l.aq 
 mark-below limits (suc (suc (suc (suc zero)))) m l d = let b = d.high in let x = l.am in let a = d.low in omega arith
 mark-below limits (suc (suc (suc (suc (suc k))))) m l d = let a = d.low in let b = d.high in let z : ⊥ = omega arith in absurd z
 
-pub base-bits : (class : ℕ) → class < 5 → bit_and (24872550400 / 2 ^ (class * 7)) 127 ≡ base class
-unfolding base
-base-bits k h = low-seven-bits _ ∙ same_at 5 (λ i. 24872550400 / 2 ^ (i * 7) % 128) base refl k h
-
-pub spot-bits : (class : ℕ) → class < 5 → bit_and (13972 / 2 ^ (class * 3)) 7 ≡ spot_of class
+-- a code that no class has
+pub spot-of-none : (code : ℕ) → ((class : Destination) → class_code class ≡ code → ⊥) → 4 ≡ spot_of code
 unfolding spot_of
-spot-bits k h = low-three-bits _ ∙ same_at 5 (λ i. 13972 / 2 ^ (i * 3) % 8) spot_of refl k h
+spot-of-none zero none = refl
+spot-of-none (suc zero) none = absurd (none Output refl)
+spot-of-none (suc (suc zero)) none = absurd (none Flag refl)
+spot-of-none (suc (suc (suc zero))) none = absurd (none AnalogOutput refl)
+spot-of-none (suc (suc (suc (suc zero)))) none = absurd (none AnalogFlag refl)
+spot-of-none (suc (suc (suc (suc (suc k))))) none = refl
 
-pub spot-above : (class : ℕ) → 4 < class → spot_of class ≡ 4
-unfolding spot_of
-spot-above zero h = let z : ⊥ = omega arith in absurd z
-spot-above (suc zero) h = let z : ⊥ = omega arith in absurd z
-spot-above (suc (suc zero)) h = let z : ⊥ = omega arith in absurd z
-spot-above (suc (suc (suc zero))) h = let z : ⊥ = omega arith in absurd z
-spot-above (suc (suc (suc (suc zero)))) h = let z : ⊥ = omega arith in absurd z
-spot-above (suc (suc (suc (suc (suc k))))) h = refl
+pub limit-of-none : (limits : Limits) (code : ℕ) → ((class : Destination) → class_code class ≡ code → ⊥) → limit_of limits code ≡ 0
+unfolding limit_of
+limit-of-none limits zero none = refl
+limit-of-none limits (suc zero) none = absurd (none Output refl)
+limit-of-none limits (suc (suc zero)) none = absurd (none Flag refl)
+limit-of-none limits (suc (suc (suc zero))) none = absurd (none AnalogOutput refl)
+limit-of-none limits (suc (suc (suc (suc zero)))) none = absurd (none AnalogFlag refl)
+limit-of-none limits (suc (suc (suc (suc (suc k))))) none = refl
 
-pub spot-below : (class : ℕ) → spot_of class < 5
-unfolding spot_of
-spot-below zero = omega arith
-spot-below (suc zero) = omega arith
-spot-below (suc (suc zero)) = omega arith
-spot-below (suc (suc (suc zero))) = omega arith
-spot-below (suc (suc (suc (suc zero)))) = omega arith
-spot-below (suc (suc (suc (suc (suc k))))) = omega arith
+pub unknown-of-none : (limits : Limits) (code number : ℕ) → ((class : Destination) → class_code class ≡ code → ⊥) → unknown limits code number ≡ true
+unknown-of-none limits code zero none = refl
+unknown-of-none limits code (suc n) none =
+    let ne : (suc n ≡ 0 → ⊥) = λ e. omega (arith, e) in simp (limit-of-none limits code none, ne_eqb (suc n) 0 ne, lt-ltb 0 (suc n) (omega arith))
 
 -- ---- a row stands behind all blocks
 
@@ -104,19 +94,22 @@ none-later limits spot own n sorts c h e = go (names_block (class_of c)) refl
         let r' : c.number ≤ n = subst (λ (x : ℕ). c.number ≤ x) (names-greatest limits n k q) r in
         lt-leb own c.number (omega arith)
 
--- the number of a row's connector is 6 or none
-module _ (limits : Limits) (s : List ℕ) (at n own : ℕ) (sorts : List Bool) (class spot fault : ℕ)
-    (is-class : class ≡ class_at s at)
-    (is-spot : spot ≡ spot_of class)
-    (is-fault : fault ≡ six_or_seven (wrong limits spot own n sorts (connector_at s (at + 5))) (later own (connector_at s (at + 5))))
+-- a row's connector, judged at a spot: it is wrong there, or not refused
+module _ (limits : Limits) (spot judged own n number : ℕ) (sorts : List Bool) (c : Connector)
+    (is-spot : judged ≡ spot)
+    (is-number : number ≡ six_or_seven (wrong limits judged own n sorts c) (later own c))
   where
-    there : wrong limits spot own n sorts (connector_at s (at + 5)) ≡ wrong limits (spot_of (class_at s at)) own n sorts (connector_at s (at + 5))
-    there = ap (λ (p : ℕ). wrong limits p own n sorts (connector_at s (at + 5))) (is-spot ∙ ap spot_of is-class)
+    there : wrong limits judged own n sorts c ≡ wrong limits spot own n sorts c
+    there = ap (λ (p : ℕ). wrong limits p own n sorts c) is-spot
 
-    pub row-right : fault ≡ 0 → wrong limits (spot_of (class_at s at)) own n sorts (connector_at s (at + 5)) ≡ false
-    row-right z = sym there ∙ none-wrong _ _ (sym is-fault ∙ z)
+    pub row-right : number ≡ 0 → wrong limits spot own n sorts c ≡ false
+    row-right z = sym there ∙ none-wrong _ _ (sym is-number ∙ z)
 
-    pub row-wrong : n < own → (fault ≡ 0 → ⊥) → wrong limits (spot_of (class_at s at)) own n sorts (connector_at s (at + 5)) ≡ true
-    row-wrong h nz =
-        sym there
-        ∙ is-wrong _ _ (none-later limits spot own n sorts (connector_at s (at + 5)) h) (λ z. nz (is-fault ∙ z))
+    pub row-wrong : n < own → 1 ≤ number → wrong limits spot own n sorts c ≡ true
+    row-wrong h above = sym there ∙ is-wrong _ _ (none-later limits judged own n sorts c h) (λ z. let y : number ≡ 0 = is-number ∙ z in omega (arith, y))
+
+    pub row-six : n < own → 1 ≤ number → number ≡ 6
+    unfolding six_or_seven
+    row-six h above =
+        let w : wrong limits judged own n sorts c ≡ true = there ∙ row-wrong h above in
+        is-number ∙ rw w refl

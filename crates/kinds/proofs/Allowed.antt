@@ -31,10 +31,6 @@ longest-most : (base : ℕ) → le_z (pos (longest base)) (pos 9999) ≡ true
 longest-most zero = refl
 longest-most (suc n) = refl
 
-pub with-true : (a : Bool) → (a && true) ≡ a
-with-true true = refl
-with-true false = refl
-
 four : (a b c d : Bool) → (a && (b && (c && d))) ≡ true → (a ≡ true) × (b ≡ true) × (c ≡ true) × (d ≡ true)
 four a b c d e =
     let f = and-true a (b && (c && d)) e in
@@ -75,6 +71,21 @@ each-ordered (suc (suc n)) p e j l h =
     let parts = and-true (le_z (parameter p (suc (suc n))) (parameter p (suc n))) (in_order (suc n) p) e in
     last-or-before (λ i. le_z (parameter p (suc i)) (parameter p i)) j n (omega arith) parts.0
     (λ less. each-ordered (suc n) p parts.1 j l (omega arith))
+
+-- one that is not refuses them all
+pub setting_fails : (n : ℕ) (p : List ℤ) (j : ℕ) → j < n → setting_fits (parameter p 0) (parameter p (suc j)) ≡ false → false ≡ settings_fit n p
+setting_fails n p j h e = by (settings_fit n p) refl
+  where
+    by : (b : Bool) → settings_fit n p ≡ b → false ≡ b
+    by true q = sym e ∙ each-setting n p q (suc j) (omega arith) (omega arith)
+    by false q = refl
+
+pub order_fails : (n : ℕ) (p : List ℤ) (j : ℕ) → 1 ≤ j → j < n → le_z (parameter p (suc j)) (parameter p j) ≡ false → false ≡ in_order n p
+order_fails n p j l h e = by (in_order n p) refl
+  where
+    by : (b : Bool) → in_order n p ≡ b → false ≡ b
+    by true q = sym e ∙ each-ordered n p q j l h
+    by false q = refl
 
 over-le : (x y : ℤ) → le_z x y ≡ true → over x ≤ over y
 over-le (pos n) y e = omega (arith, le_z-true (pos n) y e)

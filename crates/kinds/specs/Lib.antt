@@ -1,3 +1,4 @@
 pub mod Time
 pub mod Kinds
+pub mod Codes
 pub mod Table

@@ -1,5 +1,5 @@
 -- T of a block in ticks: none where its kind has no setting, else those of its first two parameters. Assumes nothing.
-use mathlib.Core.Path.{◌≡◌, refl, sym, ap, ◌∙◌, subst}
+use mathlib.Core.Path.{◌≡◌, refl, sym, ap, ap₂, ◌∙◌, subst}
 use mathlib.Core.Bool.{Bool, true, cond}
 use mathlib.Core.List.{List}
 use Prim.Native.Nat.{ℕ, ◌+◌, ◌*◌, ◌≤◌}
@@ -78,3 +78,7 @@ module _ (s : List ℕ) (at kind : ℕ) (is : kind ≡ kind_at s at) where
           time-is = rw (← time) (time-in kind params ok 1 (omega arith) h);
           ticks-are = is_set (kind_of kind).times h ∙ ap (λ (k : ℕ). time_of (kind_of k).times 1 (four_of (parameters_at s at (kind_of k)))) is;
         }
+
+-- as the code reads them: the kind, its digital and analog inputs and its settings
+pub pair-read : (s : List ℕ) (at kind d a t : ℕ) → kind ≡ kind_at s at → Lies s at → d ≡ (kind_of kind).digitals → a ≡ (kind_of kind).analogs → t ≡ (kind_of kind).times → (t ≡ 0 → ⊥) → Pair s at (at + 5 + 3 * (d + a))
+pair-read s at kind d a t is lies p q r some = pair s at kind is lies _ (ap₂ (λ (x y : ℕ). at + 5 + 3 * (x + y)) p q) (omega arith)

@@ -2,117 +2,98 @@
 #![tactic(auto)]
 
 ghost use Rattle.std.specs.Prelude.{◌≡◌, ◌+◌, ◌*◌, ◌≤◌, ◌<◌, length};
-ghost use Rattle.kinds.specs.Table.{kinds_table, rows};
+ghost use Rattle.kinds.specs.Codes.{byte_of};
 ghost use Rattle.connectors.specs.Connectors.{connectors_at};
 ghost use Rattle.blockfield.specs.BlockField.{kind_at};
 ghost use Rattle.blockfield.specs.Marked.{Lies};
 ghost use Rattle.decoding.specs.Decoded.{block_at};
-ghost use Rattle.lines.specs.Lines.{nth, classes_of, numbers_of, line_of};
+ghost use Rattle.lines.specs.Lines.{nth, input_said, inputs_said, line_of, line_said};
 
 use blocks::Prepared;
-use kinds::{KindTable, Ticks};
+use kinds::{Kind, Setting, Ticks};
 
-// Kind, retentive or not, class bytes and numbers of four connectors (0 where there is none), parameters made ready.
+// What an input of a block is connected to: class byte and number; 0 and 0 where to nothing.
+#[derive(Clone, Copy)]
+pub struct Input {
+    pub class: u8,
+    pub number: u16,
+}
+
+// Kind, retentive or not, the inputs, parameters made ready.
 #[derive(Clone, Copy)]
 pub struct Line {
-    pub kind: usize,
+    pub kind: Kind,
     pub retentive: bool,
-    pub classes: [usize; 4],
-    pub numbers: [usize; 4],
+    pub inputs: [Input; 4],
     pub prepared: Prepared,
 }
 
-// The class byte of connector j of `count` that stand from a place on; 0 where there is none.
-fn class_at(bytes: &[u8], from: usize, count: usize, j: usize) -> usize
+// Connector j of `count` that stand from a place on; none beyond them.
+fn input_at(bytes: &[u8], from: usize, count: usize, j: usize) -> Input
     requires { (from + 3 * count ≤ length bytes.now) × (j < 4) }
-    ensures { result ≡ (nth (connectors_at bytes.now from count) j).class }
+    ensures { input_said result ≡ nth (connectors_at bytes.now from count) j }
 {
     if j < count {
-        return words::byte_at(bytes, from + 3 * j);
+        let at = from + 3 * j;
+        Input {
+            class: bytes[at],
+            number: words::two_at(bytes, at + 1) as u16,
+        }
+    } else {
+        Input {
+            class: 0,
+            number: 0,
+        }
     }
-    0
-}
-
-// Its number.
-fn number_at(bytes: &[u8], from: usize, count: usize, j: usize) -> usize
-    requires { (from + 3 * count ≤ length bytes.now) × (j < 4) }
-    ensures { result ≡ (nth (connectors_at bytes.now from count) j).number }
-{
-    if j < count {
-        return words::two_at(bytes, from + 3 * j + 1);
-    }
-    0
-}
-
-// The class bytes of four.
-fn classes_at(bytes: &[u8], from: usize, count: usize) -> [usize; 4]
-    requires { from + 3 * count ≤ length bytes.now }
-    ensures { result ≡ classes_of (connectors_at bytes.now from count) }
-{
-    [
-        class_at(bytes, from, count, 0),
-        class_at(bytes, from, count, 1),
-        class_at(bytes, from, count, 2),
-        class_at(bytes, from, count, 3),
-    ]
-}
-
-// The numbers of four.
-fn numbers_at(bytes: &[u8], from: usize, count: usize) -> [usize; 4]
-    requires { from + 3 * count ≤ length bytes.now }
-    ensures { result ≡ numbers_of (connectors_at bytes.now from count) }
-{
-    [
-        number_at(bytes, from, count, 0),
-        number_at(bytes, from, count, 1),
-        number_at(bytes, from, count, 2),
-        number_at(bytes, from, count, 3),
-    ]
 }
 
 // The kind of the block at a place.
-pub fn kind_at(bytes: &[u8], at: usize) -> usize
+pub fn kind_at(bytes: &[u8], at: usize) -> Kind
     requires { Lies bytes.now at }
-    ensures { (result ≡ kind_at bytes.now at) × (result < rows) }
+    ensures { byte_of result ≡ kind_at bytes.now at }
 {
-    words::byte_at(bytes, at + 3)
+    let Ok(kind) = Kind::try_from(bytes[at + 3]) else {
+        unreachable!()
+    };
+    kind
 }
 
 // Its T in ticks, read from its timebase and its T alone.
-pub fn time_at(kinds: &KindTable, bytes: &[u8], at: usize) -> Ticks
-    requires { (kinds.now ≡ kinds_table) × Lies bytes.now at }
+pub fn time_at(bytes: &[u8], at: usize) -> Ticks
+    requires { Lies bytes.now at }
     ensures { result ≡ (line_of (block_at bytes.now at)).prepared.time }
 {
     let kind = kind_at(bytes, at);
-    if kinds::times(kinds, kind) == 0 {
+    if kind.times() == 0 {
         return Ticks(0);
     }
-    let count = kinds::digital_inputs(kinds, kind) + kinds::analog_inputs(kinds, kind);
+    let count = kind.digital_inputs() + kind.analog_inputs();
     let base = at + 5 + 3 * count;
-    kinds::ticks_of(kinds::setting_of(
+    let setting = Setting::new(
         words::signed_four_at(bytes, base),
         words::signed_four_at(bytes, base + 4),
-    ))
+    );
+    setting.into()
 }
 
 // The line of the block at a place.
-pub fn line_at(kinds: &KindTable, bytes: &[u8], at: usize) -> Line
-    requires { (kinds.now ≡ kinds_table) × Lies bytes.now at }
-    ensures { result ≡ line_of (block_at bytes.now at) }
+pub fn line_at(bytes: &[u8], at: usize) -> Line
+    requires { Lies bytes.now at }
+    ensures { line_said result ≡ line_of (block_at bytes.now at) }
 {
     let kind = kind_at(bytes, at);
-    let retentive = words::byte_at(bytes, at + 4) == 1;
-    let count = kinds::digital_inputs(kinds, kind) + kinds::analog_inputs(kinds, kind);
+    let count = kind.digital_inputs() + kind.analog_inputs();
     let from = at + 5;
-    let classes = classes_at(bytes, from, count);
-    let numbers = numbers_at(bytes, from, count);
-    let params = blockfield::parameters_at(kinds, bytes, at, kind);
-    let prepared = blocks::prepare(kinds, kind, params);
+    let params = blockfield::parameters_at(bytes, at, kind);
     Line {
         kind,
-        retentive,
-        classes,
-        numbers,
-        prepared,
+        retentive: bytes[at + 4] == 1,
+        inputs: [
+            input_at(bytes, from, count, 0),
+            input_at(bytes, from, count, 1),
+            input_at(bytes, from, count, 2),
+            input_at(bytes, from, count, 3),
+        ],
+        prepared: blocks::prepare(kind, params),
     }
 }

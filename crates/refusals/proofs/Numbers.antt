@@ -2,7 +2,9 @@
 use Rattle.std.specs.Prelude.{ℕ, ◌≡◌, ◌≤◌, eqb, if◌then◌else◌, Result, Ok, Err}
 use Rattle.refusals.specs.declared.Refusal.{Refusal}
 use Rattle.refusals.specs.declared.Refusal.TheVariants.{CutShort, TagOrLength, Version, NumberOfBlocks, KindOrOption, Connector, OwnOrLaterBlock, Parameter, Destination, IndexUsedTwice, SurplusBytes, RecordLength, RecordNotSound, WrongPhase, InputWords, OutputWords, Quote, TagKindOrColumns, NumberOrLabel, NoRoom, TooManyBlocks}
+use Rattle.refusals.specs.declared.TheConstants.{OURS, OLDER}
 use Rattle.refusals.specs.Refusals.{number_of, number_in}
+use Rattle.refusals.specs.Limited.{ours, older}
 use mathlib.Core.Path.{refl, sym, ap, ◌∙◌}
 use native.Mathlib.Omega.{arith}
 
@@ -80,7 +82,11 @@ named TooManyBlocks = refl
 pub numbers-differ : (one other : Refusal) → number_of one ≡ number_of other → one ≡ other
 numbers-differ one other e = sym (named one) ∙ ap named_by e ∙ named other
 
+pub ours-is : OURS ≡ ours
+ours-is = refl
 
+pub older-is : OLDER ≡ older
+older-is = refl
 
 -- a result with number 0 is one that is not refused
 pub none-refused : (result : Result Unit Refusal) → number_in result ≡ 0 → result ≡ Ok tt

@@ -1,6 +1,8 @@
 -- Document 01, "Circuit bytes": "In order: one header; the blocks, each followed by at most one label; the rows; the end." Which fields
 -- may come next.
 use Rattle.std.specs.Prelude.{ℕ}
+use Rattle.refusals.specs.declared.Stage.{Stage}
+use Rattle.refusals.specs.declared.Stage.TheVariants.{Opening, AmongBlocks, AfterBlock, AmongRows, Ended}
 
 -- only the header may come next
 abbrev pub opening : ℕ
@@ -21,3 +23,11 @@ among_rows = 3
 -- nothing may: the end field was read, and no field is judged behind it
 abbrev pub ended : ℕ
 ended = 4
+
+-- a stage as such a number
+abbrev pub stage_of : Stage → ℕ
+stage_of Opening = opening
+stage_of AmongBlocks = among_blocks
+stage_of AfterBlock = after_block
+stage_of AmongRows = among_rows
+stage_of Ended = ended

@@ -1,7 +1,7 @@
-// What every judging has in common: limits, stages, and the answer of four numbers.
+// What every judging has in common: refusals, limits, stages, and the answer of four numbers.
 #![tactic(auto)]
 
-ghost use Rattle.std.specs.Prelude.{◌≡◌};
+ghost use Rattle.std.specs.Prelude.{◌≡◌, ◌+◌, ◌≤◌, length};
 ghost use Rattle.refusals.specs.Limited.{ours as ours_of, older as older_of};
 ghost use Rattle.refusals.specs.Answers.{refused_at, accepted_with, answer_of};
 ghost use Rattle.refusals.specs.Refusals.{number_of};
@@ -91,6 +91,16 @@ impl From<Refusal> for Refused {
     }
 }
 
+// Refusal number or 0, place, first, second.
+#[repr(C)]
+#[derive(Clone, Copy)]
+pub struct Answer {
+    pub number: usize,
+    pub place: usize,
+    pub first: usize,
+    pub second: usize,
+}
+
 impl From<Result<(usize, usize), Refused>> for Answer {
     ghost from_gives = { λ judged answer. answer ≡ answer_of judged };
 
@@ -112,7 +122,33 @@ impl From<Result<(usize, usize), Refused>> for Answer {
     }
 }
 
+// A field that lies within the bytes: its first byte, and the length of its content.
+#[derive(Clone, Copy)]
+pub struct Field<'a> {
+    pub bytes: &'a [u8],
+    pub at: usize,
+    pub size: usize,
+    ghost inside: { (at + 3) + size ≤ length bytes.now },
+}
 
+impl Field<'_> {
+    // Where the next one begins.
+    pub fn end(self) -> usize
+        ensures { result ≡ (self.entry.at + 3) + self.entry.size }
+    {
+        self.at + 3 + self.size
+    }
+}
+
+// The stages of a circuit: the header is awaited; the last field was the header or a label; a block; a row; the end.
+#[derive(Clone, Copy, PartialEq, Eq)]
+pub enum Stage {
+    Opening,
+    AmongBlocks,
+    AfterBlock,
+    AmongRows,
+    Ended,
+}
 
 // The most blocks, and the greatest number of Q, AQ, M and AM.
 #[derive(Clone, Copy)]
@@ -124,51 +160,34 @@ pub struct Limits {
     pub am: usize,
 }
 
-// Refusal number or 0, place, first, second.
-#[repr(C)]
-#[derive(Clone, Copy)]
-pub struct Answer {
-    pub number: usize,
-    pub place: usize,
-    pub first: usize,
-    pub second: usize,
-}
-
-// The stages of a circuit: the header is awaited; the last field was the header or a label; a block; a row; the end.
-pub const OPENING: u8 = 0;
-
-pub const AMONG_BLOCKS: u8 = 1;
-
-pub const AFTER_BLOCK: u8 = 2;
-
-pub const AMONG_ROWS: u8 = 3;
-
-pub const ENDED: u8 = 4;
-
 // Our limits.
+pub const OURS: Limits = Limits {
+    blocks: 400,
+    q: 20,
+    aq: 8,
+    m: 64,
+    am: 64,
+};
+
+// Those of the series 0BA6.
+pub const OLDER: Limits = Limits {
+    blocks: 200,
+    q: 16,
+    aq: 2,
+    m: 27,
+    am: 6,
+};
+
 pub fn ours() -> Limits
     ensures { result ≡ ours_of }
 {
-    Limits {
-        blocks: 400,
-        q: 20,
-        aq: 8,
-        m: 64,
-        am: 64,
-    }
+    OURS
 }
 
-// Those of the series 0BA6.
 pub fn older() -> Limits
     ensures { result ≡ older_of }
 {
-    Limits {
-        blocks: 200,
-        q: 16,
-        aq: 2,
-        m: 27,
-        am: 6,
-    }
+    OLDER
 }
 
 // The answer of a refusal.

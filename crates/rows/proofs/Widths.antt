@@ -12,29 +12,9 @@ use mir.Val.{of_z}
 use borrow.Author.Tests.{eqb-true, eqb-false, ltb-true, ltb-false, eq-eqb, ne_eqb, lt-ltb, le-ltb}
 use Rattle.words.proofs.Written.{length-bytes}
 use Rattle.digits.specs.Numbers.{value_of}
-use Rattle.rows.specs.Columns.{below_of, above_of, widths, connector_widths, said_in, packed, numbers_bytes}
+use Rattle.rows.specs.Columns.{widths, connector_widths, said_in, packed, numbers_bytes}
 use Rattle.rows.specs.Entries.{packed_all}
 use Rattle.rows.specs.Widths.{width_at}
-
-pub below-four : (w : ℕ) → w ≡ 4 → 2147483648 ≡ below_of w
-unfolding below_of
-below-four w e = rw (eq-eqb w 4 e)
-
-pub below_other : (w : ℕ) → (w ≡ 4 → ⊥) → 0 ≡ below_of w
-unfolding below_of
-below_other w n = rw (ne_eqb w 4 n)
-
-pub above-four : (w : ℕ) → w ≡ 4 → 2147483647 ≡ above_of w
-unfolding above_of
-above-four w e = rw (eq-eqb w 4 e)
-
-pub above-two : (w : ℕ) → (w ≡ 4 → ⊥) → w ≡ 2 → 65535 ≡ above_of w
-unfolding above_of
-above-two w n e = rw (ne_eqb w 4 n, eq-eqb w 2 e)
-
-pub above_other : (w : ℕ) → (w ≡ 4 → ⊥) → (w ≡ 2 → ⊥) → 255 ≡ above_of w
-unfolding above_of
-above_other w n m = rw (ne_eqb w 4 n, ne_eqb w 2 m)
 
 pub width-single : (i j : ℕ) → j < 2 → 1 ≡ width_at i j
 unfolding width_at

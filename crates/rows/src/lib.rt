@@ -2,26 +2,25 @@
 #![tactic(auto)]
 
 ghost use Rattle.std.specs.Prelude.{◌≡◌, ◌+◌, ◌*◌, ◌≤◌, ◌<◌};
-ghost use Rattle.kinds.specs.Table.{Lent};
+ghost use Rattle.kinds.specs.Codes.{byte_of};
 ghost use Rattle.rows.specs.Shape.{known_shape};
 ghost use Rattle.rows.specs.Columns.{block_shape, output_shape, below_of, above_of};
 ghost use Rattle.rows.specs.Widths.{width_at};
 
 mod shape;
 
-use kinds::KindTable;
+use kinds::Kind;
 pub use shape::Shape;
 
 // The shape of a block of a kind.
-#[tactic(auto, unfolding(crate::specs::Columns::block_shape))]
-pub fn block_shape(kinds: &KindTable, kind: usize) -> Shape
-    requires { Lent kinds.now kind }
-    ensures { (known_shape result ≡ block_shape kind) × (result.inputs ≤ 4) × (2 * result.inputs + result.parameters ≤ 11) }
+#[tactic(auto, using(kinds::proofs::Rows::small), unfolding(crate::specs::Columns::block_shape))]
+pub fn block_shape(kind: Kind) -> Shape
+    ensures { (known_shape result ≡ block_shape (byte_of kind)) × (result.inputs ≤ 4) × (2 * result.inputs + result.parameters ≤ 11) }
 {
     Shape {
         tag: 0x10,
-        inputs: kinds::digital_inputs(kinds, kind) + kinds::analog_inputs(kinds, kind),
-        parameters: kinds::parameters(kinds, kind),
+        inputs: kind.digital_inputs() + kind.analog_inputs(),
+        parameters: kind.parameters(),
         labelled: true,
     }
 }

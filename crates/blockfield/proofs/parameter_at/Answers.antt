@@ -9,5 +9,5 @@ returns-then-j-count c =
     let a = c.args in
     back_to _ c.signed_four_at.type_inv (c.signed_four_at.ensures ∙ sym (signed-in a.bytes.now a.count a.from a.j c.if-j-count.true))
 
-pub returns : goal.returns
-returns c = let a = c.args in sym (signed-out a.bytes.now a.count a.from a.j c.if-j-count.false)
+pub returns-else-j-count : goal.returns-else-j-count
+returns-else-j-count c = let a = c.args in sym (signed-out a.bytes.now a.count a.from a.j c.if-j-count.false)

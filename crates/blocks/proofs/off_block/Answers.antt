@@ -1,6 +1,0 @@
--- `blocks::off_block` meets its contract. Assumes nothing.
-use mathlib.Core.Path.{◌∙◌}
-use Rattle.blocks.proofs.off_block.Goals as goal
-
-pub returns : goal.returns
-returns c = c.off_delay.ensures ∙ rw (c.was_bit.ensures, c.was_on.ensures, c.was_number.ensures.0)

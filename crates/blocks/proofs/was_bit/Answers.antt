@@ -1,8 +1,0 @@
--- `blocks::was_bit` meets its contract. Assumes nothing.
-use mathlib.Core.Path.{◌∙◌, ap}
-use Rattle.words.proofs.Locals.{back-ok}
-use Rattle.words.specs.Signed.{bit_of}
-use Rattle.blocks.proofs.was_bit.Goals as goal
-
-pub returns : goal.returns
-returns c = c.bit_of.ensures ∙ ap bit_of (back-ok c.args.was.remembered c.struct_told-1.given.1.0.1)
