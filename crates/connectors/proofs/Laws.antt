@@ -63,11 +63,11 @@ module _ (k : ℕ) (none : (class : Class) → class_code class ≡ k → ⊥) w
 -- a code that no class has is taken nowhere
 pub taken-nowhere : (spot : Spot) (code : ℕ) → ((class : Class) → class_code class ≡ code → ⊥) → member code (takes (spot_code spot)) ≡ false
 unfolding takes member
-taken-nowhere DigitalInput k none = simp (other k none Unused, other k none Input, other k none Low, other k none High, other k none Flag, other k none Block, other k none AnalogInput, other k none AnalogFlag, other k none AnalogBlock)
-taken-nowhere InAnalogInput k none = simp (other k none Unused, other k none Input, other k none Low, other k none High, other k none Flag, other k none Block, other k none AnalogInput, other k none AnalogFlag, other k none AnalogBlock)
-taken-nowhere DigitalRow k none = simp (other k none Unused, other k none Input, other k none Low, other k none High, other k none Flag, other k none Block, other k none AnalogInput, other k none AnalogFlag, other k none AnalogBlock)
-taken-nowhere AnalogRow k none = simp (other k none Unused, other k none Input, other k none Low, other k none High, other k none Flag, other k none Block, other k none AnalogInput, other k none AnalogFlag, other k none AnalogBlock)
-taken-nowhere UnknownRow k none = simp (other k none Unused, other k none Input, other k none Low, other k none High, other k none Flag, other k none Block, other k none AnalogInput, other k none AnalogFlag, other k none AnalogBlock)
+taken-nowhere DigitalInput k none = simp (other k none Unused, other k none Input, other k none Low, other k none High, other k none Flag, other k none Block)
+taken-nowhere InAnalogInput k none = simp (other k none AnalogInput, other k none AnalogFlag, other k none AnalogBlock)
+taken-nowhere DigitalRow k none = simp (other k none Input, other k none Low, other k none High, other k none Flag, other k none Block)
+taken-nowhere AnalogRow k none = simp (other k none AnalogInput, other k none AnalogFlag, other k none AnalogBlock)
+taken-nowhere UnknownRow k none = simp (other k none Input, other k none Low, other k none High, other k none Flag, other k none Block, other k none AnalogInput, other k none AnalogFlag, other k none AnalogBlock)
 
 -- counted from 1
 pub get_d-pred : {A : Type 0} (d x : A) (l : List A) (i : ℕ) → 1 ≤ i → get_or (x ∷ l) i d ≡ get_or l (i - 1) d

@@ -103,6 +103,7 @@ pub fn judge_row(
 }
 
 // The greatest number of a destination class, by its code; 0 of an unknown class.
+// By the code and not by `Destination`: its promise of an unknown class (docs/CONTRACTS.md) may not go.
 #[tactic(auto, unfolding(crate::specs::Fields::limit_of))]
 pub fn limit_of(limits: Limits, class: usize) -> usize
     ensures { result ≡ limit_of limits class }
