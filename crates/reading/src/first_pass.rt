@@ -1,12 +1,10 @@
 // The rows judged and counted, up to the first with a fault.
 ghost use Rattle.std.specs.Prelude.{◌≡◌, ◌+◌, ◌-◌, ◌≤◌, ◌<◌, Ok, true, cond, ltb, length};
-ghost use Rattle.kinds.specs.Table.{kinds_table};
 ghost use Rattle.rows.specs.Shape.{known_shape};
 ghost use Rattle.rows.specs.Columns.{columns_of};
 ghost use Rattle.splitting.specs.Spans.{starts_of, sizes_of};
 ghost use Rattle.reading.specs.Counted.{mark_in, label_in, label_sized, judged_of, counted_of, surveyed_of, is_over, rest_of, opened_with, counted_with, Looks, Judges, Surveys};
 
-use kinds::KindTable;
 use refusals::{Refusal, Refused};
 use rows::Shape;
 use splitting::Held;
@@ -56,15 +54,13 @@ fn label_size(held: &Held, j: usize, quoted: bool) -> Option<usize>
 }
 
 // Judges the row at a position.
-fn judge(kinds: &KindTable, held: &mut Held, at: usize) -> Result<Judged, Refusal>
-    requires { (kinds.now ≡ kinds_table) × (at < length held.old.text.now) }
+fn judge(held: &mut Held, at: usize) -> Result<Judged, Refusal>
+    requires { at < length held.old.text.now }
     ensures text { held.new.text ≡ held.old.text }
     ensures judges { Judges held.old.text.now at (judged_of result) }
 {
     let row = held.split(at).ok_or(Refusal::Quote)?;
-    let shape = held
-        .shape(kinds, row.count)
-        .ok_or(Refusal::TagKindOrColumns)?;
+    let shape = held.shape(row.count).ok_or(Refusal::TagKindOrColumns)?;
     if row.count != columns(shape) {
         return Err(Refusal::TagKindOrColumns);
     }
@@ -122,15 +118,14 @@ impl Counted {
 }
 
 // Judges and counts the rows up to the first with a fault.
-pub fn survey(kinds: &KindTable, held: &mut Held, room: usize) -> Result<Counted, Refused>
-    requires { kinds.now ≡ kinds_table }
+pub fn survey(held: &mut Held, room: usize) -> Result<Counted, Refused>
     ensures text { held.new.text ≡ held.old.text }
     ensures surveys { Surveys held.old.text.now room (surveyed_of result) }
 {
     let mut counted = Counted::new(room);
     let mut at = 0;
     while at < held.text.len() {
-        match judge(kinds, held, at) {
+        match judge(held, at) {
             Ok(row) => {
                 counted = counted.with(row);
                 at = row.next;

@@ -18,9 +18,8 @@ fn read(text: &[u8], circuit: &mut [u8]) -> Result<(usize, usize), Refused>
     ensures answer { answer_of result ≡ read_answer text.now (length circuit.old) }
     ensures circuit { circuit.new ≡ circuit_after text.now circuit.old }
 {
-    let kinds = kinds::table();
     let mut held = Held::new(text);
-    let counted = survey(&kinds, &mut held, circuit.len())?;
+    let counted = survey(&mut held, circuit.len())?;
     let are_too_many = 400 < counted.blocks;
     if are_too_many {
         return Err(Refusal::TooManyBlocks.at(0));
@@ -29,7 +28,7 @@ fn read(text: &[u8], circuit: &mut [u8]) -> Result<(usize, usize), Refused>
         return Err(Refusal::NoRoom.at(0));
     }
     put_header(circuit, counted.blocks);
-    let end = fill(&kinds, &mut held, circuit);
+    let end = fill(&mut held, circuit);
     put_head(circuit, end, 0x7F, 0);
     Ok((end + 3, counted.rows))
 }

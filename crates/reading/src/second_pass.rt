@@ -2,7 +2,6 @@
 ghost use Rattle.std.specs.Prelude.{◌≡◌, List, ◌∷◌, ℕ, ◌+◌, ◌*◌, ◌≤◌, ◌<◌, length, drop};
 ghost use Rattle.std.proofs.lemmas.List.Edits.{sets};
 ghost use Rattle.words.specs.Bytes.{bytes_of};
-ghost use Rattle.kinds.specs.Table.{kinds_table};
 ghost use Rattle.kept.specs.Keeps.{joined, field};
 ghost use Rattle.rows.specs.Text.{rows_of};
 ghost use Rattle.rows.specs.Columns.{widths, numbers_bytes, row_number, fields_of};
@@ -11,7 +10,6 @@ ghost use Rattle.splitting.specs.Spans.{starts_of, sizes_of};
 ghost use Rattle.splitting.specs.Found.{SaysOf};
 ghost use Rattle.reading.specs.Counted.{row_at, label_field_in, Puts};
 
-use kinds::KindTable;
 use rows::Shape;
 use splitting::Held;
 
@@ -62,15 +60,15 @@ fn put_label(held: &Held, j: usize, quoted: bool, circuit: &mut [u8], to: usize)
 }
 
 // Puts the fields of the row at a position, which has no fault.
-fn put_row(kinds: &KindTable, held: &mut Held, at: usize, circuit: &mut [u8], to: usize) -> Placed
-    requires place { (kinds.now ≡ kinds_table) × (at < length held.old.text.now) }
+fn put_row(held: &mut Held, at: usize, circuit: &mut [u8], to: usize) -> Placed
+    requires place { at < length held.old.text.now }
     requires sound { row_number (row_at held.old.text.now at) ≡ 0 }
     requires room { to + length (fields_of (row_at held.old.text.now at)) ≤ length circuit.old }
     ensures text { held.new.text ≡ held.old.text }
     ensures puts { Puts held.old.text.now at to result circuit.old circuit.new }
 {
     let row = held.split(at).unwrap();
-    let shape = held.shape(kinds, row.count).unwrap();
+    let shape = held.shape(row.count).unwrap();
     let mut end = put_field(held, shape, circuit, to);
     if shape.labelled {
         end = put_label(held, row.count - 2, row.quoted, circuit, end);
@@ -82,8 +80,7 @@ fn put_row(kinds: &KindTable, held: &mut Held, at: usize, circuit: &mut [u8], to
 }
 
 // Puts the fields of all rows behind the header; answers where they end.
-pub fn fill(kinds: &KindTable, held: &mut Held, circuit: &mut [u8]) -> usize
-    requires table { kinds.now ≡ kinds_table }
+pub fn fill(held: &mut Held, circuit: &mut [u8]) -> usize
     requires sound { reading_from 1 (rows_of held.old.text.now) ≡ sound }
     requires room { 6 + length (joined fields_of (rows_of held.old.text.now)) ≤ length circuit.old }
     ensures { (circuit.new ≡ sets circuit.old 6 (joined fields_of (rows_of held.old.text.now)))
@@ -92,7 +89,7 @@ pub fn fill(kinds: &KindTable, held: &mut Held, circuit: &mut [u8]) -> usize
     let mut at = 0;
     let mut to = 6;
     while at < held.text.len() {
-        let placed = put_row(kinds, held, at, circuit, to);
+        let placed = put_row(held, at, circuit, to);
         to = placed.end;
         at = placed.next;
     }

@@ -66,6 +66,11 @@ pub said-small : (w : ℕ) (l : List ℕ) (n : Number) → n ≡ said_in w l →
 unfolding said_in
 said-small w l n e = rw e (number_small (below_of w) (above_of w) 2147483648 l (below-small w) (above-small w))
 
+-- a number for one byte is one
+pub said-byte : (l : List ℕ) (n : Number) → n ≡ said_in 1 l → n.size ≤ 255
+unfolding said_in below_of above_of
+said-byte l n e = rw e (number_small 0 255 255 l (omega arith) (omega arith))
+
 -- ---- place by place
 
 fit-cons : (w : ℕ) (ws : List ℕ) (c : List ℕ) (cells : List (List ℕ)) (t : Bool) → (said_in w c).ok ≡ t → numbers_fit (w ∷ ws) (c ∷ cells) ≡ cond t (numbers_fit ws cells) false

@@ -8,6 +8,11 @@ use lib.ListN.{length, get_or-eq_default}
 use borrow.Author.Tests.{eq-eqb, ne_eqb}
 use Rattle.digits.specs.Numbers.{Number}
 use Rattle.digits.specs.Numbers.{digits, size_in, has_minus, number_of}
+use Rattle.std.specs.Prelude.{Result, Ok, Err}
+use Rattle.std.specs.Result.{result_ok}
+use Rattle.kinds.specs.declared.kind.Kind.{Kind}
+use Rattle.kinds.specs.declared.kind.UnknownKind.{UnknownKind}
+use Rattle.kinds.specs.Codes.{Decodes}
 use Rattle.kinds.specs.Kinds.{known}
 use Rattle.std.specs.Prelude.{None}
 use Rattle.rows.specs.Shape.{shape_said}
@@ -65,3 +70,8 @@ none_said = refl
 
 pub none-second : (cells : List (List ℕ)) → length cells < 2 → (said_in 1 (nth cells 1)).ok ≡ false
 none-second cells h = rw (get_or-eq_default cells [] {n = 1} (omega arith)) none_said
+
+-- the byte of a kind, decoded
+pub not_decoded : (byte : ℕ) (r : Result Kind UnknownKind) → Decodes byte r → result_ok r ≡ None → known byte ≡ false
+not_decoded byte (Ok kind) h e = absurd (let z : ◌≡◌ {A = ℕ} 0 1 = cc in omega arith)
+not_decoded byte (Err x) h e = h

@@ -1,6 +1,5 @@
 // A row split to its end, and its shape.
 ghost use Rattle.std.specs.Prelude.{◌≡◌, List, ℕ, ◌<◌, length};
-ghost use Rattle.kinds.specs.Table.{kinds_table};
 ghost use Rattle.rows.specs.Columns.{shape_of};
 ghost use Rattle.rows.specs.Shape.{shape_said};
 ghost use Rattle.splitting.specs.Spans.{starts_of, sizes_of};
@@ -8,7 +7,7 @@ ghost use Rattle.splitting.specs.Found.{found_of, SaysOf, Finds};
 
 use crate::Held;
 use cells::Ending;
-use kinds::KindTable;
+use kinds::Kind;
 use rows::Shape;
 
 // A whole row: how many cells it has, whether the last stands in quotes, and where the next row begins.
@@ -47,18 +46,15 @@ impl<'a> Held<'a> {
     }
 
     // The shape of a row of `count` cells, by its tag and its kind; none where one is unknown.
-    pub fn shape(&self, kinds: &KindTable, count: usize) -> Option<Shape>
-        requires { (kinds.now ≡ kinds_table) × (0 < count) }
+    pub fn shape(&self, count: usize) -> Option<Shape>
+        requires { 0 < count }
         ensures { (cells : List (List ℕ)) → SaysOf self.now.text.now self.now.spans cells → count ≡ length cells → shape_said result ≡ shape_of cells }
     {
         match self.said(0, 1)?.size {
             0x30 => Some(rows::output_shape()),
             0x10 if 2 <= count => {
-                let kind = self.said(1, 1)?.size as usize;
-                if !kinds::is_known(kind) {
-                    return None;
-                }
-                Some(rows::block_shape(kinds, kind))
+                let kind = Kind::try_from(self.said(1, 1)?.size as u8).ok()?;
+                Some(rows::block_shape(kind))
             }
             _ => None,
         }
