@@ -8,7 +8,7 @@ ghost use Rattle.refusals.specs.Faults.{lowest};
 ghost use Rattle.refusals.specs.Modest.{Modest};
 ghost use Rattle.refusals.specs.Refusals.{number_in as refusal_in};
 ghost use Rattle.refusals.specs.Stages.{stage_of};
-ghost use Rattle.fields.specs.Fields.{header_faults, label_faults, class_at, number_in, row_faults, end_faults, limit_of};
+ghost use Rattle.fields.specs.Fields.{header_faults, label_faults, class_at, number_in, row_faults, end_faults};
 ghost use Rattle.fields.specs.Marks.{mark};
 
 use connectors::Reach;
@@ -100,19 +100,4 @@ pub fn judge_row(
         return Err(Refusal::Destination);
     }
     Ok(mark)
-}
-
-// The greatest number of a destination class, by its code; 0 of an unknown class.
-// By the code and not by `Destination`: its promise of an unknown class (docs/CONTRACTS.md) may not go.
-#[tactic(auto, unfolding(crate::specs::Fields::limit_of))]
-pub fn limit_of(limits: Limits, class: usize) -> usize
-    ensures { result ≡ limit_of limits class }
-{
-    match class {
-        1 => limits.q,
-        2 => limits.m,
-        3 => limits.aq,
-        4 => limits.am,
-        _ => 0,
-    }
 }

@@ -2,8 +2,7 @@
 #![tactic(auto)]
 
 ghost use Rattle.std.specs.Prelude.{◌≡◌, ◌+◌, ◌≤◌, length};
-ghost use Rattle.refusals.specs.Limited.{ours as ours_of, older as older_of};
-ghost use Rattle.refusals.specs.Answers.{refused_at, accepted_with, answer_of};
+ghost use Rattle.refusals.specs.Answers.{answer_of};
 ghost use Rattle.refusals.specs.Refusals.{number_of};
 
 // Why something is refused.
@@ -177,39 +176,3 @@ pub const OLDER: Limits = Limits {
     m: 27,
     am: 6,
 };
-
-pub fn ours() -> Limits
-    ensures { result ≡ ours_of }
-{
-    OURS
-}
-
-pub fn older() -> Limits
-    ensures { result ≡ older_of }
-{
-    OLDER
-}
-
-// The answer of a refusal.
-pub fn refused_at(number: usize, place: usize) -> Answer
-    ensures { result ≡ refused_at number place }
-{
-    Answer {
-        number,
-        place,
-        first: 0,
-        second: 0,
-    }
-}
-
-// The answer of a call that is accepted.
-pub fn accepted_with(first: usize, second: usize) -> Answer
-    ensures { result ≡ accepted_with first second }
-{
-    Answer {
-        number: 0,
-        place: 0,
-        first,
-        second,
-    }
-}
