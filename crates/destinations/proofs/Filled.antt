@@ -24,13 +24,7 @@ use Rattle.destinations.specs.Slots.{base, slot, filled, Aimed, at-q, at-m, at-a
 
 -- ---- slots
 
-pub class-below : (class number : ℕ) → Aimed class number → class < 5
-class-below class number (at-q e a b) = omega arith
-class-below class number (at-m e a b) = omega arith
-class-below class number (at-aq e a b) = omega arith
-class-below class number (at-am e a b) = omega arith
-
--- and has a name
+-- a destination's class has a name
 pub aimed-class : (class number : ℕ) → Aimed class number → (d : Destination) × (class_code d ≡ class)
 aimed-class class number (at-q e a b) = (Output, sym e)
 aimed-class class number (at-m e a b) = (Flag, sym e)

@@ -46,7 +46,7 @@ fn clear_block(plan: &Plan, rec: &mut [i32], d: usize)
         rec.new ≡ cond line.retentive rec.old (put_words rec.old (d + 1) (three (pos 0) (pos 0) (pos 0))) }
 {
     if !plan.line(d).retentive {
-        record::put_words(rec, d + 1, rules::three_of(0, 0, 0));
+        record::put_words(rec, (d + 1) as u16, rules::three_of(0, 0, 0));
     }
 }
 

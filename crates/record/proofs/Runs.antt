@@ -4,13 +4,12 @@ use native.Mathlib.Omega.{arith}
 use native.Mathlib.Nat.{eq-or-lt_of_le, add-zero, add-suc}
 use mathlib.Core.Path.{◌≡◌, refl, sym, ap, ◌∙◌}
 use mathlib.Core.Logic.{⊎_elim}
-use mathlib.Core.Bool.{Bool, true, false, ◌&&◌}
+use mathlib.Core.Bool.{Bool, true, false, ◌&&◌, and_assoc}
 use mathlib.Core.List.{List, [], ◌∷◌, ◌++◌}
 use lib.ListN.{length, set, take, drop, replicate, length-set}
 use lib.Seq.{get_or-set_same, get_or-set_other}
 use lib.IntN.{ℤ, pos}
 use Rattle.words.proofs.Bounds.{and-true}
-use Rattle.refusals.proofs.Tests.{and-false}
 use Rattle.std.specs.List.{between}
 use Rattle.std.proofs.lemmas.Bool.{cases_lt}
 use Rattle.std.proofs.lemmas.List.{ext_get_or, take_more, length-append, length-take, length-take-le, length-drop, get_or-append_right, get_or_append_left, get_or-take, length-replicate, get_or-drop, get_or-replicate}
@@ -132,19 +131,6 @@ pub each-every : (n : ℕ) (f : ℕ → Bool) → ((i : ℕ) → i < n → f i �
 unfolding every
 each-every zero f h = refl
 each-every (suc n) f h = rw (each-every n f (λ i g. h i (omega arith)), h n (omega arith))
-
--- one that fails
-pub one-fails : (n : ℕ) (f : ℕ → Bool) (i : ℕ) → i < n → f i ≡ false → every n f ≡ false
-unfolding every
-one-fails zero f i h e = let z : ⊥ = omega arith in absurd z
-one-fails (suc n) f i h e =
-    ⊎_elim (λ (g : i ≡ n). (and-false (every n f) (f n)).1 (λ t. ap f (sym g) ∙ e))
-    (λ (g : i < n). rw (one-fails n f i g e))
-    (eq-or-lt_of_le {n = i} {m = n} (omega arith))
-
-and_assoc : (a b c : Bool) → (a && b) && c ≡ a && (b && c)
-and_assoc true b c = refl
-and_assoc false b c = refl
 
 -- a part of some words
 pub run-all : (r : Range) (l : List ℤ) (a m : ℕ) → a + m ≤ length l → run_fits r l a m ≡ all_fit r (take m (drop a l))

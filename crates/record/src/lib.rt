@@ -11,7 +11,7 @@ ghost use Rattle.kinds.specs.Time.{ticks};
 ghost use Rattle.record.specs.Places.{phase, done, mark, elapsed, size_of, index_of, at, word, put, words_of, put_words};
 ghost use Rattle.record.specs.Sound.{in_scan};
 ghost use Rattle.record.specs.Written.{put_all, nothing};
-ghost use Rattle.record.specs.Said.{said, Counts};
+ghost use Rattle.record.specs.Said.{said};
 
 use kinds::Ticks;
 pub use place::Place;
@@ -23,16 +23,13 @@ pub use sound::{are_within, is_sound, is_within};
 
 // The word at a place, 0 past the end.
 pub fn word(rec: &[i32], place: Place) -> i32
-    requires { Counts place }
     ensures { result ≡ word rec.now (said place) }
 {
-    let i = place.index();
-    if i < rec.len() { rec[i] } else { 0 }
+    rec.get(place.index()).copied().unwrap_or(0)
 }
 
 // Stores a word at a place; nothing past the end.
 pub fn put(rec: &mut [i32], place: Place, z: i32)
-    requires { Counts place }
     ensures { rec.new ≡ put rec.old (said place) z }
 {
     let i = place.index();
@@ -80,8 +77,7 @@ pub fn elapsed_of(rec: &[i32]) -> Ticks
 // ---- the three words of a block
 
 // Those of block k.
-pub fn words_of(rec: &[i32], k: usize) -> BlockWords
-    requires { k ≤ 400 }
+pub fn words_of(rec: &[i32], k: u16) -> BlockWords
     ensures { result ≡ words_of rec.now k }
 {
     BlockWords {
@@ -92,8 +88,7 @@ pub fn words_of(rec: &[i32], k: usize) -> BlockWords
 }
 
 // Stores those of block k.
-pub fn put_words(rec: &mut [i32], k: usize, w: BlockWords)
-    requires { k ≤ 400 }
+pub fn put_words(rec: &mut [i32], k: u16, w: BlockWords)
     ensures { rec.new ≡ put_words rec.old k w }
 {
     put(rec, Place::Output(k), w.output);
@@ -106,7 +101,7 @@ pub fn put_words(rec: &mut [i32], k: usize, w: BlockWords)
 // Stores words one after the other, from a place on; none past the end.
 #[tactic(auto, using(crate::proofs::Runs::part_stored))]
 pub fn put_all(rec: &mut [i32], first: Place, from: &[i32])
-    requires { Counts first × (length from.now ≤ 2000) }
+    requires { length from.now ≤ 2000 }
     ensures { rec.new ≡ put_all rec.old (index_of (said first)) (length from.now) (at from.now) }
 {
     let start = first.index().min(rec.len());
@@ -117,7 +112,6 @@ pub fn put_all(rec: &mut [i32], first: Place, from: &[i32])
 // Zeroes the words before a place.
 #[tactic(auto, using(crate::proofs::Runs::front_cleared), unfolding(crate::specs::Places::index_of))]
 pub fn clear_before(rec: &mut [i32], place: Place)
-    requires { Counts place }
     ensures { rec.new ≡ put_all rec.old (index_of phase) (index_of (said place)) nothing }
 {
     let end = place.index().min(rec.len());

@@ -1,6 +1,6 @@
 ghost use Rattle.std.specs.Prelude.{◌≡◌};
 ghost use Rattle.record.specs.Places.{index_of};
-ghost use Rattle.record.specs.Said.{said, Counts};
+ghost use Rattle.record.specs.Said.{said};
 
 // I1, the first analog input, M1, AM1 and the words of block 1.
 pub const INPUTS: usize = 4;
@@ -20,20 +20,19 @@ pub enum Place {
     Done,
     Mark,
     Elapsed,
-    Input(usize),
-    Analog(usize),
-    Flag(usize),
-    AnalogFlag(usize),
-    Output(usize),
-    Remembered(usize),
-    Number(usize),
+    Input(u16),
+    Analog(u16),
+    Flag(u16),
+    AnalogFlag(u16),
+    Output(u16),
+    Remembered(u16),
+    Number(u16),
 }
 
 impl Place {
     // Where it stands.
     #[tactic(auto, unfolding(crate::specs::Places::index_of))]
     pub fn index(self) -> usize
-        requires { Counts self }
         ensures { result ≡ index_of (said self) }
     {
         match self {
@@ -41,13 +40,13 @@ impl Place {
             Place::Done => 1,
             Place::Mark => 2,
             Place::Elapsed => 3,
-            Place::Input(n) => INPUTS - 1 + n,
-            Place::Analog(n) => ANALOGS - 1 + n,
-            Place::Flag(n) => FLAGS - 1 + n,
-            Place::AnalogFlag(n) => ANALOG_FLAGS - 1 + n,
-            Place::Output(k) => BLOCKS - 3 + 3 * k,
-            Place::Remembered(k) => BLOCKS - 2 + 3 * k,
-            Place::Number(k) => BLOCKS - 1 + 3 * k,
+            Place::Input(n) => INPUTS - 1 + n as usize,
+            Place::Analog(n) => ANALOGS - 1 + n as usize,
+            Place::Flag(n) => FLAGS - 1 + n as usize,
+            Place::AnalogFlag(n) => ANALOG_FLAGS - 1 + n as usize,
+            Place::Output(k) => BLOCKS - 3 + 3 * k as usize,
+            Place::Remembered(k) => BLOCKS - 2 + 3 * k as usize,
+            Place::Number(k) => BLOCKS - 1 + 3 * k as usize,
         }
     }
 }

@@ -4,7 +4,7 @@ ghost use Rattle.blockfield.specs.Marked.{Lies};
 ghost use Rattle.decoding.specs.Decoded.{block_at};
 ghost use Rattle.lines.specs.Lines.{line_of};
 ghost use Rattle.record.specs.Places.{size_of, index_of, word};
-ghost use Rattle.record.specs.Said.{said, Counts};
+ghost use Rattle.record.specs.Said.{said};
 ghost use Rattle.record.specs.Sound.{at_rest, sound};
 ghost use Rattle.record.specs.Written.{all_fit, head_fits, fixed_fit, block_fits, blocks_fit, lines_at};
 
@@ -14,7 +14,7 @@ use crate::plan::Plan;
 
 // The word at a place that the record has.
 fn held(rec: &[i32], place: Place) -> i32
-    requires { Counts place × (index_of (said place) < length rec.now) }
+    requires { index_of (said place) < length rec.now }
     ensures { result ≡ word rec.now (said place) }
 {
     rec[place.index()]
@@ -61,8 +61,8 @@ fn fixed_fit(rec: &[i32], n: usize) -> bool
 
 // Whether the three words of block k, which stands at a place of the bytes, are in their ranges.
 #[tactic(auto, unfolding(lines::specs::Lines::line_of, crate::specs::Places::index_of, crate::specs::Written::block_fits))]
-fn block_fits(bytes: &[u8], at: usize, rec: &[i32], k: usize) -> bool
-    requires { Lies bytes.now at × (k ≤ 400) × (size_of k ≤ length rec.now) }
+fn block_fits(bytes: &[u8], at: usize, rec: &[i32], k: u16) -> bool
+    requires { Lies bytes.now at × (size_of k ≤ length rec.now) }
     ensures { result ≡ block_fits (line_of (block_at bytes.now at)) rec.now k }
 {
     let kind = lines::kind_at(bytes, at);
@@ -80,7 +80,7 @@ fn blocks_fit(plan: &Plan, rec: &[i32]) -> bool
 {
     let mut ok = true;
     for d in 0..plan.n {
-        ok &= block_fits(plan.bytes, plan.offsets[d], rec, d + 1);
+        ok &= block_fits(plan.bytes, plan.offsets[d], rec, (d + 1) as u16);
     }
     ok
 }

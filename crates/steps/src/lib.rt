@@ -1,13 +1,12 @@
 // The inputs of a block, resolved together, its step, and the steps of a turn.
 #![tactic(auto)]
 
-ghost use Rattle.std.specs.Prelude.{◌≡◌, ◌+◌, ◌-◌, ◌≤◌, ◌<◌, get_or, IfSome};
+ghost use Rattle.std.specs.Prelude.{◌≡◌, ◌+◌, ◌-◌, ◌≤◌, ◌<◌, get_or};
 ghost use Rattle.blocks.specs.Fit.{Sixteen};
 ghost use Rattle.decoding.specs.Decoded.{block_at};
 ghost use Rattle.lines.specs.Lines.{input_said, line_of, line_said};
 ghost use Rattle.record.specs.Places.{put_words};
 ghost use Rattle.record.specs.Written.{lines_at};
-ghost use Rattle.record.specs.Said.{Counts};
 ghost use Rattle.steps.specs.Steps.{read_from, value_from, plain_bit, bit_from, bits_of, values_of, becomes as becomes_of, steps_from, to_go, turn_of, turned};
 ghost use Rattle.steps.specs.Wired.{source_said, named, plain_named, Fine, Next, Runs};
 
@@ -24,10 +23,8 @@ pub struct Progress {
 }
 
 // The place that a class and a number name, where they name one.
-fn place_of(class: Class, number: usize) -> Option<Place>
-    requires { number < 65536 }
-    ensures is { source_said result ≡ named class number }
-    ensures counts { IfSome result Counts }
+fn place_of(class: Class, number: u16) -> Option<Place>
+    ensures { source_said result ≡ named class number }
 {
     match class {
         Class::Input => Some(Place::Input(number)),
@@ -40,8 +37,7 @@ fn place_of(class: Class, number: usize) -> Option<Place>
 }
 
 // The word that they name; 0 where they name none.
-fn word_of(rec: &[i32], class: Class, number: usize) -> i32
-    requires { number < 65536 }
+fn word_of(rec: &[i32], class: Class, number: u16) -> i32
     ensures { result ≡ read_from rec.now (named class number) }
 {
     match place_of(class, number) {
@@ -55,14 +51,13 @@ pub fn value_from(rec: &[i32], input: Input) -> i32
     ensures { result ≡ value_from rec.now (input_said input) }
 {
     match Class::try_from(input.class & 127) {
-        Ok(class) => word_of(rec, class, input.number as usize),
+        Ok(class) => word_of(rec, class, input.number),
         Err(_) => 0,
     }
 }
 
 // The bit that they name: unused as it is said to count, lo 0, hi 1.
-fn bit_of(rec: &[i32], unused: bool, class: Class, number: usize) -> bool
-    requires { number < 65536 }
+fn bit_of(rec: &[i32], unused: bool, class: Class, number: u16) -> bool
     ensures { result ≡ plain_named rec.now unused class number }
 {
     match class {
@@ -78,7 +73,7 @@ fn plain_bit(rec: &[i32], unused: bool, input: Input) -> bool
     ensures { result ≡ plain_bit rec.now unused (input_said input) }
 {
     match Class::try_from(input.class & 127) {
-        Ok(class) => bit_of(rec, unused, class, input.number as usize),
+        Ok(class) => bit_of(rec, unused, class, input.number),
         Err(_) => false,
     }
 }
@@ -119,8 +114,8 @@ fn values_of(rec: &[i32], line: &Line) -> [i32; 2]
 
 // What the three words of block k become.
 #[tactic(auto, unfolding(crate::specs::Steps::becomes))]
-fn becomes(rec: &[i32], k: usize, line: &Line) -> BlockWords
-    requires { Fine (line_said line.now) × Sixteen (values_of rec.now (line_said line.now)) × (k ≤ 400) }
+fn becomes(rec: &[i32], k: u16, line: &Line) -> BlockWords
+    requires { Fine (line_said line.now) × Sixteen (values_of rec.now (line_said line.now)) }
     ensures { result ≡ becomes_of rec.now k (line_said line.now) }
 {
     let bits = bits_of(rec, line);
@@ -131,8 +126,8 @@ fn becomes(rec: &[i32], k: usize, line: &Line) -> BlockWords
 }
 
 // Works out block k: its three words, and no other.
-pub fn step(rec: &mut [i32], k: usize, line: &Line)
-    requires { Fine (line_said line.now) × Sixteen (values_of rec.old (line_said line.now)) × (k ≤ 400) }
+pub fn step(rec: &mut [i32], k: u16, line: &Line)
+    requires { Fine (line_said line.now) × Sixteen (values_of rec.old (line_said line.now)) }
     ensures { rec.new ≡ put_words rec.old k (becomes_of rec.old k (line_said line.now)) }
 {
     let w = becomes(rec, k, line);
@@ -144,7 +139,7 @@ fn step_at(plan: &Plan, rec: &mut [i32], d: usize)
     requires { Next plan.now.bytes.now plan.now.offsets.now d rec.old × (d < plan.now.n) }
     ensures { rec.new ≡ put_words rec.old (d + 1) (becomes_of rec.old (d + 1) (line_of (block_at plan.now.bytes.now (get_or plan.now.offsets.now d 0)))) }
 {
-    step(rec, d + 1, &plan.line(d));
+    step(rec, (d + 1) as u16, &plan.line(d));
 }
 
 // Works out the m blocks behind the first d.
