@@ -18,15 +18,15 @@ pub struct Known {
     pub stage: Stage,
     // n of the header, the blocks and the rows so far, and where the first row stands
     pub n: usize,
-    pub blocks: usize,
+    blocks: usize,
     pub rows: usize,
     pub start: usize,
     // of each block where it stands, and whether it is analog
     pub offsets: [usize; 400],
-    pub sorts: [bool; 400],
+    sorts: [bool; 400],
     // the destinations and the indices of shift registers that are used
-    pub used: [bool; 156],
-    pub registers: [bool; 4],
+    used: [bool; 156],
+    registers: [bool; 4],
 }
 
 impl Known {
@@ -75,6 +75,8 @@ impl Known {
             sorts: &self.sorts,
         }
     }
+
+    // Each of the next five asks `Sound`: it speaks of the field's place too, which `Known` has not, so no ghost field can say it.
 
     pub fn header(&mut self, limits: &Limits, field: &Field) -> Result<(), Refusal>
         requires { Sound (head_of self.old) field.now.at × Modest limits.now }
