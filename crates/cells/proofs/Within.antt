@@ -1,14 +1,12 @@
 -- Where a cell lies: its text and its end are inside the list, and what ends it is passed. Assumes nothing.
 use mathlib.Core.Path.{◌≡◌, refl}
 use mathlib.Core.Bool.{Bool, true, false, cond}
-use mathlib.Core.List.{List, [], ◌∷◌}
-use Prim.Native.Nat.{ℕ, suc, ◌+◌, ◌-◌, ◌≤◌, ◌<◌}
+use mathlib.Core.List.{List}
+use Prim.Native.Nat.{ℕ, ◌+◌, ◌-◌, ◌≤◌, ◌<◌}
 use native.Mathlib.Omega.{arith}
 use lib.ListN.{length, drop, length-drop}
-use lib.Dec.{eqb}
-use Rattle.cells.specs.declared.Cell.{Cell}
-use Rattle.cells.specs.Cells.{starts, none, ending, ending_size, stops, plain_size, quoted_size, finish, closed, cell_at}
-use Rattle.cells.proofs.Laws.{starts-in, ending_size-fits, cell-quoted, cell-plain}
+use Rattle.cells.specs.Cells.{Cell, starts, none, ending, ending_size, plain_size, quoted_size, finish, closed, cell_at}
+use Rattle.cells.proofs.Laws.{plain_fits, quoted-fits, starts-in, ending_size-fits, cell-quoted, cell-plain}
 
 pub record Within (s : List ℕ) (at : ℕ) (c : Cell) : Type 0 where
   pub text : c.start + c.size ≤ length s
@@ -28,24 +26,6 @@ marked false false false d false z f = absurd (f refl)
 ending-ends : (l : List ℕ) → (ending l ≡ 0 → ⊥) → (ending l ≡ 30 → ⊥) → 0 < ending_size (ending l)
 unfolding ending
 ending-ends l = marked (starts 44 l) (starts 10 l) (starts 13 l) (starts 10 (drop 1 l)) (none l)
-
-either : (t : Bool) (a b c : ℕ) → a ≤ c → b ≤ c → cond t a b ≤ c
-either true a b c h g = h
-either false a b c h g = g
-
-pub plain_fits : (l : List ℕ) → plain_size l ≤ length l
-unfolding plain_size
-plain_fits [] = omega arith
-plain_fits (x ∷ l) = either (stops (x ∷ l)) 0 (suc (plain_size l)) (suc (length l)) (omega arith) (omega (arith, plain_fits l))
-
-pub quoted-fits : (l : List ℕ) → quoted_size l ≤ length l
-unfolding quoted_size
-quoted-fits [] = omega arith
-quoted-fits (x ∷ []) = either (eqb x 34) 0 1 1 (omega arith) (omega arith)
-quoted-fits (x ∷ y ∷ l) =
-    either (eqb x 34) (cond (eqb y 34) (suc (suc (quoted_size l))) 0) (suc (quoted_size (y ∷ l))) (suc (suc (length l)))
-    (either (eqb y 34) (suc (suc (quoted_size l))) 0 (suc (suc (length l))) (omega (arith, quoted-fits l)) (omega arith))
-    (omega (arith, quoted-fits (y ∷ l)))
 
 finish-within : (s : List ℕ) (q : Bool) (at from size e : ℕ) → at ≤ e → from + size ≤ e → e ≤ length s → Within s at (finish s q from size e)
 unfolding finish

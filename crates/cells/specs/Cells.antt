@@ -1,7 +1,29 @@
 -- RFC 4180 as document 02 takes it: the cell at a position of a text, and a cell written out. Bytes: 34 is the quote, 44 the comma,
 -- 10 LF, 13 CR.
 use Rattle.std.specs.Prelude.{ℕ, suc, ◌+◌, List, [], ◌∷◌, ◌++◌, Bool, true, false, cond, not, take, drop, eqb}
-use Rattle.cells.specs.declared.Cell.{Cell}
+use Rattle.cells.specs.declared.Ending.{Ending}
+use Rattle.cells.specs.declared.Ending.TheVariants.{Text, Comma, Lf, Crlf, Broken}
+use Rattle.cells.specs.declared.Cell.{Cell as Handed}
+
+-- where the text of a cell starts and how many bytes it has; whether it stands in quotes; how it ends, by number; where the next begins
+pub record Cell : Type 0 where
+  pub start : ℕ
+  pub size : ℕ
+  pub quoted : Bool
+  pub how : ℕ
+  pub next : ℕ
+
+-- the number of an ending
+abbrev pub ending_of : Ending → ℕ
+ending_of Text = 0
+ending_of Comma = 1
+ending_of Lf = 2
+ending_of Crlf = 3
+ending_of Broken = 30
+
+-- a cell as the code hands it out
+abbrev pub cell_of : Handed → Cell
+cell_of c = record { start = c.start; size = c.size; quoted = c.quoted; how = ending_of c.how; next = c.next }
 
 -- the bytes begin with b
 unfoldable pub starts : ℕ → List ℕ → Bool

@@ -1,15 +1,16 @@
 -- A number written in decimal is read as itself. Assumes nothing.
 use mathlib.Core.Path.{◌≡◌, refl, ap, sym, ◌∙◌}
-use mathlib.Core.Bool.{Bool, true, false}
+use mathlib.Core.Bool.{Bool, true, false, cond}
 use mathlib.Core.List.{List, [], ◌∷◌, ◌++◌}
 use Prim.Native.Nat.{ℕ, zero, suc, ◌+◌, ◌-◌, ◌*◌, ◌/◌, ◌%◌, ◌≤◌, ◌<◌}
+use native.Mathlib.Numerals.{add-one}
 use native.Mathlib.Omega.{arith}
 use lib.ListN.{length, length-append}
 use lib.ListN.{set}
 use lib.Seq.{sets, set_comm}
 use native.Mathlib.Nat.{add-zero}
 use lib.Dec.{ltb}
-use borrow.Author.Tests.{le-leb, ltb-true, ltb-false, lt-ltb, le-ltb}
+use borrow.Author.Tests.{le-leb, ltb-true}
 use Rattle.digits.specs.Numbers.{digit, all_digits, value_from, value, last_digits, width, decimal}
 
 value-snoc : (a : ℕ) (l : List ℕ) (x : ℕ) → value_from a (l ++ (x ∷ [])) ≡ value_from a l * 10 + (x - 48)
@@ -58,95 +59,22 @@ pub decimal-length : (n : ℕ) → length (decimal n) ≡ width n
 unfolding decimal
 decimal-length n = last-length (width n) n
 
-pub width-1 : (n : ℕ) → n < 10 → 1 ≡ width n
-unfolding width
-width-1 n b = rw (lt-ltb _ _ b)
+-- a number of so many digits is below that power of ten
+wide : (n k b : ℕ) → n < ten b → n < ten (cond (ltb n (ten k)) k b)
+wide n k b h = by (ltb n (ten k)) refl
+  where
+    by : (t : Bool) → ltb n (ten k) ≡ t → n < ten (cond t k b)
+    by true e = ltb-true n (ten k) e
+    by false e = h
 
-pub width-2 : (n : ℕ) → 10 ≤ n → n < 100 → 2 ≡ width n
-unfolding width
-width-2 n a b = let h1 : 10 ≤ n = omega arith in rw (le-ltb _ _ h1, lt-ltb _ _ b)
-
-pub width-3 : (n : ℕ) → 100 ≤ n → n < 1000 → 3 ≡ width n
-unfolding width
-width-3 n a b = let h1 : 10 ≤ n = omega arith in let h2 : 100 ≤ n = omega arith in rw (le-ltb _ _ h1, le-ltb _ _ h2, lt-ltb _ _ b)
-
-pub width-4 : (n : ℕ) → 1000 ≤ n → n < 10000 → 4 ≡ width n
-unfolding width
-width-4 n a b = let h1 : 10 ≤ n = omega arith in let h2 : 100 ≤ n = omega arith in let h3 : 1000 ≤ n = omega arith in rw (le-ltb _ _ h1, le-ltb _ _ h2, le-ltb _ _ h3, lt-ltb _ _ b)
-
-pub width-5 : (n : ℕ) → 10000 ≤ n → n < 100000 → 5 ≡ width n
-unfolding width
-width-5 n a b = let h1 : 10 ≤ n = omega arith in let h2 : 100 ≤ n = omega arith in let h3 : 1000 ≤ n = omega arith in let h4 : 10000 ≤ n = omega arith in rw (le-ltb _ _ h1, le-ltb _ _ h2, le-ltb _ _ h3, le-ltb _ _ h4, lt-ltb _ _ b)
-
-pub width-6 : (n : ℕ) → 100000 ≤ n → n < 1000000 → 6 ≡ width n
-unfolding width
-width-6 n a b = let h1 : 10 ≤ n = omega arith in let h2 : 100 ≤ n = omega arith in let h3 : 1000 ≤ n = omega arith in let h4 : 10000 ≤ n = omega arith in let h5 : 100000 ≤ n = omega arith in rw (le-ltb _ _ h1, le-ltb _ _ h2, le-ltb _ _ h3, le-ltb _ _ h4, le-ltb _ _ h5, lt-ltb _ _ b)
-
-pub width-7 : (n : ℕ) → 1000000 ≤ n → n < 10000000 → 7 ≡ width n
-unfolding width
-width-7 n a b = let h1 : 10 ≤ n = omega arith in let h2 : 100 ≤ n = omega arith in let h3 : 1000 ≤ n = omega arith in let h4 : 10000 ≤ n = omega arith in let h5 : 100000 ≤ n = omega arith in let h6 : 1000000 ≤ n = omega arith in rw (le-ltb _ _ h1, le-ltb _ _ h2, le-ltb _ _ h3, le-ltb _ _ h4, le-ltb _ _ h5, le-ltb _ _ h6, lt-ltb _ _ b)
-
-pub width-8 : (n : ℕ) → 10000000 ≤ n → n < 100000000 → 8 ≡ width n
-unfolding width
-width-8 n a b = let h1 : 10 ≤ n = omega arith in let h2 : 100 ≤ n = omega arith in let h3 : 1000 ≤ n = omega arith in let h4 : 10000 ≤ n = omega arith in let h5 : 100000 ≤ n = omega arith in let h6 : 1000000 ≤ n = omega arith in let h7 : 10000000 ≤ n = omega arith in rw (le-ltb _ _ h1, le-ltb _ _ h2, le-ltb _ _ h3, le-ltb _ _ h4, le-ltb _ _ h5, le-ltb _ _ h6, le-ltb _ _ h7, lt-ltb _ _ b)
-
-pub width-9 : (n : ℕ) → 100000000 ≤ n → n < 1000000000 → 9 ≡ width n
-unfolding width
-width-9 n a b = let h1 : 10 ≤ n = omega arith in let h2 : 100 ≤ n = omega arith in let h3 : 1000 ≤ n = omega arith in let h4 : 10000 ≤ n = omega arith in let h5 : 100000 ≤ n = omega arith in let h6 : 1000000 ≤ n = omega arith in let h7 : 10000000 ≤ n = omega arith in let h8 : 100000000 ≤ n = omega arith in rw (le-ltb _ _ h1, le-ltb _ _ h2, le-ltb _ _ h3, le-ltb _ _ h4, le-ltb _ _ h5, le-ltb _ _ h6, le-ltb _ _ h7, le-ltb _ _ h8, lt-ltb _ _ b)
-
-pub width-10 : (n : ℕ) → 1000000000 ≤ n → 10 ≡ width n
-unfolding width
-width-10 n a = let h1 : 10 ≤ n = omega arith in let h2 : 100 ≤ n = omega arith in let h3 : 1000 ≤ n = omega arith in let h4 : 10000 ≤ n = omega arith in let h5 : 100000 ≤ n = omega arith in let h6 : 1000000 ≤ n = omega arith in let h7 : 10000000 ≤ n = omega arith in let h8 : 100000000 ≤ n = omega arith in let h9 : 1000000000 ≤ n = omega arith in rw (le-ltb _ _ h1, le-ltb _ _ h2, le-ltb _ _ h3, le-ltb _ _ h4, le-ltb _ _ h5, le-ltb _ _ h6, le-ltb _ _ h7, le-ltb _ _ h8, le-ltb _ _ h9)
-
-reach-9 : (n : ℕ) → n < 10000000000 → 100000000 ≤ n → (t : Bool) → ltb n 1000000000 ≡ t → n < ten (width n)
-unfolding ten
-reach-9 n h a true e = let g = ltb-true n 1000000000 e in rw (← width-9 n a g) (omega arith)
-reach-9 n h a false e = let g = ltb-false n 1000000000 e in rw (← width-10 n g) (omega arith)
-
-reach-8 : (n : ℕ) → n < 10000000000 → 10000000 ≤ n → (t : Bool) → ltb n 100000000 ≡ t → n < ten (width n)
-unfolding ten
-reach-8 n h a true e = let g = ltb-true n 100000000 e in rw (← width-8 n a g) (omega arith)
-reach-8 n h a false e = let g = ltb-false n 100000000 e in reach-9 n h g (ltb n 1000000000) refl
-
-reach-7 : (n : ℕ) → n < 10000000000 → 1000000 ≤ n → (t : Bool) → ltb n 10000000 ≡ t → n < ten (width n)
-unfolding ten
-reach-7 n h a true e = let g = ltb-true n 10000000 e in rw (← width-7 n a g) (omega arith)
-reach-7 n h a false e = let g = ltb-false n 10000000 e in reach-8 n h g (ltb n 100000000) refl
-
-reach-6 : (n : ℕ) → n < 10000000000 → 100000 ≤ n → (t : Bool) → ltb n 1000000 ≡ t → n < ten (width n)
-unfolding ten
-reach-6 n h a true e = let g = ltb-true n 1000000 e in rw (← width-6 n a g) (omega arith)
-reach-6 n h a false e = let g = ltb-false n 1000000 e in reach-7 n h g (ltb n 10000000) refl
-
-reach-5 : (n : ℕ) → n < 10000000000 → 10000 ≤ n → (t : Bool) → ltb n 100000 ≡ t → n < ten (width n)
-unfolding ten
-reach-5 n h a true e = let g = ltb-true n 100000 e in rw (← width-5 n a g) (omega arith)
-reach-5 n h a false e = let g = ltb-false n 100000 e in reach-6 n h g (ltb n 1000000) refl
-
-reach-4 : (n : ℕ) → n < 10000000000 → 1000 ≤ n → (t : Bool) → ltb n 10000 ≡ t → n < ten (width n)
-unfolding ten
-reach-4 n h a true e = let g = ltb-true n 10000 e in rw (← width-4 n a g) (omega arith)
-reach-4 n h a false e = let g = ltb-false n 10000 e in reach-5 n h g (ltb n 100000) refl
-
-reach-3 : (n : ℕ) → n < 10000000000 → 100 ≤ n → (t : Bool) → ltb n 1000 ≡ t → n < ten (width n)
-unfolding ten
-reach-3 n h a true e = let g = ltb-true n 1000 e in rw (← width-3 n a g) (omega arith)
-reach-3 n h a false e = let g = ltb-false n 1000 e in reach-4 n h g (ltb n 10000) refl
-
-reach-2 : (n : ℕ) → n < 10000000000 → 10 ≤ n → (t : Bool) → ltb n 100 ≡ t → n < ten (width n)
-unfolding ten
-reach-2 n h a true e = let g = ltb-true n 100 e in rw (← width-2 n a g) (omega arith)
-reach-2 n h a false e = let g = ltb-false n 100 e in reach-3 n h g (ltb n 1000) refl
-
-reach-1 : (n : ℕ) → n < 10000000000 → (t : Bool) → ltb n 10 ≡ t → n < ten (width n)
-unfolding ten
-reach-1 n h true e = let g = ltb-true n 10 e in rw (← width-1 n g) (omega arith)
-reach-1 n h false e = let g = ltb-false n 10 e in reach-2 n h g (ltb n 100) refl
+reach : (n : ℕ) → n < 10000000000 → n < ten (width n)
+unfolding width ten
+reach n h = wide n 1 _ (wide n 2 _ (wide n 3 _ (wide n 4 _ (wide n 5 _ (wide n 6 _ (wide n 7 _ (wide n 8 _ (wide n 9 10 h))))))))
 
 -- a number written in decimal and read again
 pub decimal-value : (n : ℕ) → n < 10000000000 → value (decimal n) ≡ n
 unfolding decimal
-decimal-value n h = last-value (width n) n (reach-1 n h (ltb n 10) refl)
+decimal-value n h = last-value (width n) n (reach n h)
 
 -- a run of stores grows at its end
 pub sets_last : (xs l : List ℕ) (at d : ℕ) → sets (set l (at + length xs) d) at xs ≡ sets l at (xs ++ (d ∷ []))
@@ -157,18 +85,17 @@ sets_last (x ∷ xs) l at d =
     rw (n, ← set_comm l at (suc at + length xs) x d o) (sets_last xs (set l at x) (suc at) d)
 
 -- one turn of `put_digits`
-pub put_on : (l : List ℕ) (at j m : ℕ) → 0 < j → sets (set l (at + (j - 1)) (48 + m % 10)) at (last_digits (j - 1) (m / 10)) ≡ sets l at (last_digits j m)
+pub put-turn : (l : List ℕ) (at j m : ℕ) → sets (set l (at + j) (48 + m % 10)) at (last_digits j (m / 10)) ≡ sets l at (last_digits (j + 1) m)
 unfolding last_digits
-put_on l at zero m h = absurd (omega arith)
-put_on l at (suc j) m h =
-    let k : suc j - 1 ≡ j = omega arith in
-    rw k (ap (λ (i : ℕ). sets (set l (at + i) (48 + m % 10)) at (last_digits j (m / 10))) (sym (last-length j (m / 10))) ∙ sets_last (last_digits j (m / 10)) l at (48 + m % 10))
+put-turn l at j m =
+    rw add-one
+    (ap (λ (i : ℕ). sets (set l (at + i) (48 + m % 10)) at (last_digits j (m / 10))) (sym (last-length j (m / 10))) ∙ sets_last (last_digits j (m / 10)) l at (48 + m % 10))
 
-pub put-turn : (l l' : List ℕ) (at j m r : ℕ) → 0 < j → r ≡ m / 10 → l' ≡ set l (at + (j - 1)) (48 + m % 10)
-    → sets l' at (last_digits (j - 1) r) ≡ sets l at (last_digits j m)
-put-turn l l' at j m r h p q = rw (q, p) (put_on l at j m h)
-
-pub put-done : (l : List ℕ) (at j m : ℕ) → j ≤ 0 → l ≡ sets l at (last_digits j m)
+pub put-done : (l : List ℕ) (at j m : ℕ) → j ≤ 0 → sets l at (last_digits j m) ≡ l
 unfolding last_digits
 put-done l at zero m h = refl
 put-done l at (suc j) m h = absurd (omega arith)
+
+pub ruleset put_turns = (put-turn, put-done)
+
+pub ruleset lengths = (decimal-length, last-length)

@@ -1,25 +1,20 @@
 -- Laws on numbers in digits. Assumes nothing.
-use mathlib.Core.Path.{◌≡◌, refl, ◌∙◌}
-use mathlib.Core.Bool.{Bool, true, false}
+use mathlib.Core.Path.{◌≡◌, refl}
+use mathlib.Core.Bool.{Bool, true, false, cond}
 use mathlib.Core.List.{List, [], ◌∷◌}
-use Prim.Native.Nat.{ℕ, suc, ◌+◌, ◌-◌, ◌*◌, ◌≤◌, ◌<◌, min}
+use Prim.Native.Nat.{ℕ, suc, ◌+◌, ◌-◌, ◌*◌, ◌≤◌, ◌<◌}
 use native.Mathlib.Numerals.{add-one}
 use native.Mathlib.Omega.{arith}
-use lib.ListN.{length, get_or, take, drop}
+use lib.ListN.{drop_of_length-le, length, get_or, take, drop}
 use lib.Seq.{drop-cons}
 use lib.Dec.{eqb, leb}
-use borrow.Author.Tests.{eq-eqb, ne_eqb, leb-true, leb-false, le-leb, lt-leb}
-use Rattle.digits.specs.declared.Number.{Number}
-use Rattle.digits.specs.Numbers.{digit, all_digits, digits, value_from, value, size_in, has_minus, number_of}
-use Rattle.digits.specs.Carried.{cut}
-
-pub digit-below : (x : ℕ) → x < 48 → false ≡ digit x
-unfolding digit
-digit-below x h = rw (lt-leb _ _ h)
-
-pub digit-from : (x : ℕ) → 48 ≤ x → leb x 57 ≡ digit x
-unfolding digit
-digit-from x h = rw (le-leb _ _ h)
+use borrow.Author.Tests.{eq-eqb, ne_eqb, leb-true, le-leb, lt-leb}
+use Rattle.digits.specs.Numbers.{Number, digit, all_digits, digits, value_from, value, size_in, has_minus, number_of}
+use Rattle.digits.specs.Carried.{size_from, size_of}
+use Rattle.std.specs.Char.{is_ascii_digit}
+use Rattle.std.specs.Prelude.{◌&&◌}
+use Rattle.std.specs.Prelude.{Option, Some, None}
+use Rattle.std.proofs.lemmas.List.{take_rest}
 
 pub digit-least : (x : ℕ) → digit x ≡ true → 48 ≤ x
 unfolding digit
@@ -29,120 +24,96 @@ digit-least x e = by (leb 48 x) refl
     by true f = leb-true 48 x f
     by false f = let z : ◌≡◌ {A = Bool} false true = rw f at e in let y : ◌≡◌ {A = ℕ} 0 1 = cc in absurd (omega arith)
 
--- the bytes from a place up to an end: there are none, or the first and the others
-pub part_none : (s : List ℕ) (i to : ℕ) → to ≤ i → take (to - i) (drop i s) ≡ []
-part_none s i to h = let k : to - i ≡ 0 = omega arith in rw k
-
-pub part-cons : (s : List ℕ) (i to : ℕ) → i < to → to ≤ length s → take (to - i) (drop i s) ≡ get_or s i 0 ∷ take (to - (i + 1)) (drop (i + 1) s)
-part-cons s i to h g =
-    let k : to - i ≡ suc (to - (i + 1)) = omega arith in
-    let f : i < length s = omega arith in rw (k, drop-cons s i 0, add-one i)
-
 value_grows : (a : ℕ) (l : List ℕ) → a ≤ value_from a l
 unfolding value_from
 value_grows a [] = omega arith
 value_grows a (x ∷ l) = omega (arith, value_grows (a * 10 + (x - 48)) l)
 
-cap : (b C : ℕ) (l : List ℕ) → min (value_from b l) C ≡ min (value_from (min b C) l) C
-cap b C l = by (leb b C) refl
+-- the library's test
+pub digit-is : (x : ℕ) → is_ascii_digit x ≡ digit x
+unfolding digit
+digit-is x = by (leb 48 x)
   where
-    by : (t : Bool) → leb b C ≡ t → min (value_from b l) C ≡ min (value_from (min b C) l) C
-    by true e = let h = leb-true b C e in let k : min b C ≡ b = omega arith in rw k
-    by false e = let h = leb-false b C e in let k : min b C ≡ C = omega arith in rw k (omega (arith, value_grows b l, value_grows C l))
+    by : (t : Bool) → t && leb x 57 ≡ cond t (leb x 57) false
+    by true = refl
+    by false = refl
 
-pub cut-bad : (limit a x : ℕ) (l : List ℕ) → digit x ≡ false → cut limit a (x ∷ l) ≡ limit + 1
-unfolding cut all_digits
-cut-bad limit a x l e = rw e
+module _ (s : List ℕ) (limit a i : ℕ) where
+  pub size-bad : i < length s → digit (get_or s i 0) ≡ false → size_from limit a (drop i s) ≡ None
+  unfolding size_from all_digits
+  size-bad h e = rw (drop-cons s i 0, e)
 
-pub cut-more : (limit a x : ℕ) (l : List ℕ) → digit x ≡ true → cut limit a (x ∷ l) ≡ cut limit (min (a * 10 + (x - 48)) (limit + 1)) l
-unfolding cut all_digits value_from
-cut-more limit a x l e = rw (e, cap (a * 10 + (x - 48)) (limit + 1) l)
+  pub size-on : i < length s → digit (get_or s i 0) ≡ true
+      → size_from limit a (drop i s) ≡ size_from limit (a * 10 + (get_or s i 0 - 48)) (drop (i + 1) s)
+  unfolding size_from all_digits value_from
+  size-on h e = rw (add-one i, drop-cons s i 0, e)
 
-pub cut-nil : (limit a : ℕ) → a ≤ limit + 1 → cut limit a [] ≡ a
-unfolding cut all_digits value_from
-cut-nil limit a h = omega arith
-
-no : Number
-no = record { ok = false; negative = false; size = 0 }
-
-module _ (negative : Bool) (limit x : ℕ) (l : List ℕ) where
-  cut-yes : all_digits (x ∷ l) ≡ true → cut limit 0 (x ∷ l) ≡ min (value (x ∷ l)) (limit + 1)
-  unfolding cut
-  cut-yes e = rw e
-
-  cut-no : all_digits (x ∷ l) ≡ false → cut limit 0 (x ∷ l) ≡ limit + 1
-  unfolding cut
-  cut-no e = rw e
-
-  pub over : limit < cut limit 0 (x ∷ l) → record { ok = false; negative = false; size = 0 } ≡ size_in negative limit (x ∷ l)
-  unfolding size_in digits
-  over h = by (all_digits (x ∷ l)) refl
+  pub size-over : i < length s → limit < a * 10 + (get_or s i 0 - 48) → size_from limit a (drop i s) ≡ None
+  unfolding size_from value_from
+  size-over h g =
+      let d : limit < value_from (a * 10 + (get_or s i 0 - 48)) (drop (suc i) s) = omega (arith, value_grows (a * 10 + (get_or s i 0 - 48)) (drop (suc i) s)) in
+      rw (drop-cons s i 0, lt-leb _ _ d) (by (all_digits (get_or s i 0 ∷ drop (suc i) s)))
     where
-      by : (t : Bool) → all_digits (x ∷ l) ≡ t → record { ok = false; negative = false; size = 0 } ≡ size_in negative limit (x ∷ l)
-      by true e = let g : limit < value (x ∷ l) = omega (arith, cut-yes e) in rw (e, lt-leb _ _ g)
-      by false e = rw e
+      by : (t : Bool) → ◌≡◌ {A = Option ℕ} (cond t None None) None
+      by true = refl
+      by false = refl
 
-  pub within : (a : ℕ) → a ≡ cut limit 0 (x ∷ l) → a ≤ limit → record { ok = true; negative = negative; size = a } ≡ size_in negative limit (x ∷ l)
-  unfolding size_in digits
-  within a q h = by (all_digits (x ∷ l)) refl
-    where
-      by : (t : Bool) → all_digits (x ∷ l) ≡ t → record { ok = true; negative = negative; size = a } ≡ size_in negative limit (x ∷ l)
-      by true e =
-          let k : a ≡ value (x ∷ l) = omega (arith, cut-yes e) in
-          let g : value (x ∷ l) ≤ limit = omega arith in rw (e, le-leb _ _ g, k)
-      by false e = absurd (omega (arith, cut-no e))
+  pub size-done : length s ≤ i → a ≤ limit → size_from limit a (drop i s) ≡ Some a
+  unfolding size_from all_digits value_from
+  size-done h g = rw (drop_of_length-le s h, le-leb _ _ g)
 
-module _ (s : List ℕ) (from to : ℕ) (negative : Bool) (limit : ℕ) where
-  pub size_none : to ≤ from → record { ok = false; negative = false; size = 0 } ≡ size_in negative limit (take (to - from) (drop from s))
-  unfolding size_in digits
-  size_none h = let k : to - from ≡ 0 = omega arith in rw k
+-- digits alone, of which there is one at least
+pub size-of : (limit : ℕ) (l : List ℕ) → 0 < length l → size_of limit l ≡ size_from limit 0 l
+unfolding size_from size_of digits
+size-of limit [] h = absurd (omega arith)
+size-of limit (x ∷ l) h = refl
 
-  pub size-over : (a : ℕ) → from < to → to ≤ length s → a ≡ cut limit 0 (take (to - from) (drop from s)) → limit < a
-      → record { ok = false; negative = false; size = 0 } ≡ size_in negative limit (take (to - from) (drop from s))
-  size-over a h g q m = let p = rw (part-cons s from to h g) at q in rw (part-cons s from to h g) (over negative limit _ _ (rw p at m))
+pub size-none : (limit : ℕ) (l : List ℕ) → length l ≤ 0 → size_of limit l ≡ None
+unfolding size_of digits
+size-none limit [] h = refl
+size-none limit (x ∷ l) h = absurd (omega arith)
 
-  pub size-within : (a : ℕ) → from < to → to ≤ length s → a ≡ cut limit 0 (take (to - from) (drop from s)) → a ≤ limit
-      → record { ok = true; negative = negative; size = a } ≡ size_in negative limit (take (to - from) (drop from s))
-  size-within a h g q m = let p = rw (part-cons s from to h g) at q in rw (part-cons s from to h g) (within negative limit _ _ a p m)
+pub ruleset size_steps = (digit-is, size-bad, size-on, size-over, size-done, size-of, size-none)
 
-module _ (s : List ℕ) (start len below : ℕ) where
-  pub minus-none : len ≡ 0 → false ≡ has_minus below (take len (drop start s))
-  unfolding has_minus
-  minus-none e = rw e
+-- a size, and whether a minus stands before it
+abbrev pub signed_size_of : Bool → Option ℕ → Number
+signed_size_of negative None = record { ok = false; negative = false; size = 0 }
+signed_size_of negative (Some size) = record { ok = true; negative = negative; size = size }
 
-  len-cons : (len ≡ 0 → ⊥) → start + len ≤ length s → take len (drop start s) ≡ get_or s start 0 ∷ take (start + len - (start + 1)) (drop (start + 1) s)
-  len-cons n h =
-      let k : start + len - start ≡ len = omega arith in rw k at (part-cons s start (start + len) (omega arith) h)
+pub size_is : (negative : Bool) (limit : ℕ) (l : List ℕ) → size_in negative limit l ≡ signed_size_of negative (size_of limit l)
+unfolding size_in size_of
+size_is negative limit l = by (digits l) (leb (value l) limit)
+  where
+    by : (t u : Bool)
+        → cond t (cond u (record { ok = true; negative = negative; size = value l }) (record { ok = false; negative = false; size = 0 })) (record { ok = false; negative = false; size = 0 }) ≡ signed_size_of negative (cond t (cond u (Some (value l)) None) None)
+    by true true = refl
+    by true false = refl
+    by false u = refl
 
-  pub minus-never : (len ≡ 0 → ⊥) → start + len ≤ length s → below ≡ 0 → false ≡ has_minus below (take len (drop start s))
-  unfolding has_minus
-  minus-never n h e = rw (len-cons n h, eq-eqb _ _ e)
+-- a minus where one may stand, or none
+pub number-minus : (below above : ℕ) (l : List ℕ) → get_or l 0 0 ≡ 45 → (below ≡ 0 → ⊥)
+    → number_of below above l ≡ size_in true below (take (length l - 1) (drop 1 l))
+unfolding number_of has_minus
+number-minus below above [] e n = absurd (omega arith)
+number-minus below above (x ∷ l) e n = rw (e, ne_eqb below 0 n, take_rest (x ∷ l) 1)
 
-  pub minus-here : (len ≡ 0 → ⊥) → start + len ≤ length s → (below ≡ 0 → ⊥) → eqb (get_or s start 0) 45 ≡ has_minus below (take len (drop start s))
-  unfolding has_minus
-  minus-here n h e = rw (len-cons n h, ne_eqb _ _ e)
+pub number-other : (below above : ℕ) (l : List ℕ) → (get_or l 0 0 ≡ 45 → ⊥) → number_of below above l ≡ size_in false above l
+unfolding number_of has_minus
+number-other below above [] n = refl
+number-other below above (x ∷ l) n = by (eqb below 0)
+  where
+    by : (t : Bool) → cond (cond t false (eqb x 45)) (size_in true below l) (size_in false above (x ∷ l)) ≡ size_in false above (x ∷ l)
+    by true = refl
+    by false = rw (ne_eqb x 45 n)
 
-  pub minus-some : has_minus below (take len (drop start s)) ≡ true → len ≡ 0 → ⊥
-  minus-some e z = let p : ◌≡◌ {A = Bool} false true = minus-none z ∙ e in let y : ◌≡◌ {A = ℕ} 0 1 = cc in omega arith
+pub number-above : (below above : ℕ) (l : List ℕ) → below ≡ 0 → number_of below above l ≡ size_in false above l
+unfolding number_of has_minus
+number-above below above [] e = refl
+number-above below above (x ∷ l) e = rw (eq-eqb _ _ e)
 
-  pub number-minus : (above : ℕ) → start + len ≤ length s → has_minus below (take len (drop start s)) ≡ true
-      → size_in true below (take (start + len - (start + 1)) (drop (start + 1) s)) ≡ number_of below above (take len (drop start s))
-  unfolding number_of
-  number-minus above h e = rw (e, len-cons (minus-some e) h)
+pub number-none : (below above : ℕ) (l : List ℕ) → length l < 1 → number_of below above l ≡ size_in false above l
+unfolding number_of has_minus
+number-none below above [] h = refl
+number-none below above (x ∷ l) h = absurd (omega arith)
 
-  pub number-plain : (above : ℕ) → has_minus below (take len (drop start s)) ≡ false
-      → size_in false above (take (start + len - start) (drop start s)) ≡ number_of below above (take len (drop start s))
-  unfolding number_of
-  number-plain above e = let k : start + len - start ≡ len = omega arith in rw (e, k)
-
--- the loop of `amount`
-module _ (s : List ℕ) (to limit a i : ℕ) where
-  pub step-on : (next : ℕ) → i < to → to ≤ length s → digit (get_or s i 0) ≡ true → next ≡ min (a * 10 + (get_or s i 0 - 48)) (limit + 1)
-      → cut limit next (take (to - (i + 1)) (drop (i + 1) s)) ≡ cut limit a (take (to - i) (drop i s))
-  step-on next h g d q = rw (part-cons s i to h g, cut-more limit a _ _ d, q)
-
-  pub step-bad : i < to → to ≤ length s → digit (get_or s i 0) ≡ false → limit + 1 ≡ cut limit a (take (to - i) (drop i s))
-  step-bad h g d = rw (part-cons s i to h g, cut-bad limit a _ _ d)
-
-  pub step-done : to ≤ i → a ≤ limit + 1 → a ≡ cut limit a (take (to - i) (drop i s))
-  step-done h g = let k : to - i ≡ 0 = omega arith in rw (k, cut-nil limit a g)
+pub ruleset signs = (number-minus, number-other, number-above, number-none)

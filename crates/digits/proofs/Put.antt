@@ -1,23 +1,8 @@
--- Signed numbers of 32 bits in decimal: the lower half of the bits is the number, the upper half counts down from −1. Assumes nothing.
-use mathlib.Core.Path.{◌≡◌, refl, ap, sym, ◌∙◌}
-use mathlib.Core.Bool.{Bool, true, false, cond}
-use mathlib.Core.List.{List, ◌∷◌}
-use Prim.Native.Nat.{ℕ, suc, ◌+◌, ◌-◌, ◌≤◌, ◌<◌}
-use native.Mathlib.Numerals.{add-one}
-use native.Mathlib.Omega.{arith}
-use lib.ListN.{length, set}
-use lib.Seq.{sets}
-use lib.Dec.{ltb}
-use mir.Syntax.{w32}
-use mir.Val.{to_z}
-use mir.Facts.{to_z_pos}
-use Rattle.words.proofs.Complement.{upper}
-use Rattle.digits.specs.Numbers.{width, last_digits, decimal, signed_decimal}
+-- A signed number in decimal: its size, and a minus before it where it is below 0. Assumes nothing.
+use Rattle.std.proofs.Common.{◌≡◌, ℕ, suc, ◌+◌, ◌≤◌, ◌<◌, Bool, true, false, cond, List, ◌∷◌, ltb, length, refl, arith, add-one, length-set, ℤ, pos, negsuc, ◌≤ℤ◌, ◌<ℤ◌, unsigned_abs}
+use Rattle.std.proofs.lemmas.Int.{ints}
+use Rattle.digits.specs.Numbers.{width, decimal, signed_decimal}
 use Rattle.digits.proofs.Decimal.{decimal-length}
-
-pub decimal-is : (n : ℕ) → last_digits (width n) n ≡ decimal n
-unfolding decimal
-decimal-is n = refl
 
 at_most : (t : Bool) (a b c : ℕ) → a ≤ c → b ≤ c → cond t a b ≤ c
 at_most true a b c h g = h
@@ -35,47 +20,24 @@ width-most n =
     (at_most (ltb n 10000000) 7 _ 10 (omega arith)
     (at_most (ltb n 100000000) 8 _ 10 (omega arith) (at_most (ltb n 1000000000) 9 10 10 (omega arith) (omega arith)))))))))
 
-pub signed_low : (bits : ℕ) → bits < 2147483648 → signed_decimal (to_z w32 bits) ≡ decimal bits
+-- the number is not below 0, or a minus stands before its size
+pub signed_from : (z : ℤ) → pos 0 ≤ℤ z → signed_decimal z ≡ decimal (unsigned_abs z)
 unfolding signed_decimal
-signed_low bits h = rw (to_z_pos w32 {n = bits} h)
+signed_from (pos n) h = refl
+signed_from (negsuc n) h = absurd (omega (arith, ints))
 
-pub signed_high : (bits : ℕ) → 2147483648 ≤ bits → bits < 4294967296 → signed_decimal (to_z w32 bits) ≡ 45 ∷ decimal (4294967296 - bits)
+pub signed_below : (z : ℤ) → z <ℤ pos 0 → signed_decimal z ≡ 45 ∷ decimal (unsigned_abs z)
 unfolding signed_decimal
-signed_high bits h g =
-    let e : suc (4294967296 - suc bits) ≡ 4294967296 - bits = omega arith in
-    rw (upper w32 bits h) (ap (λ (n : ℕ). 45 ∷ decimal n) e)
+signed_below (pos n) h = absurd (omega (arith, ints))
+signed_below (negsuc n) h = refl
 
--- ---- the answers of the code
+-- and so its length
+pub length_from : (z : ℤ) → pos 0 ≤ℤ z → length (signed_decimal z) ≡ length (decimal (unsigned_abs z))
+length_from z h = rw (signed_from z h)
 
-pub put_whole : (t : List ℕ) (at n k : ℕ) (t' : List ℕ) → k ≡ width n → t' ≡ sets t at (last_digits k n)
-    → (at + k ≡ at + length (decimal n)) × (t' ≡ sets t at (decimal n))
-put_whole t at n k t' e q =
-    (rw (e, decimal-length n), q ∙ ap (λ (j : ℕ). sets t at (last_digits j n)) e ∙ ap (sets t at) (decimal-is n))
+pub length_below : (z : ℤ) → z <ℤ pos 0 → length (signed_decimal z) ≡ 1 + length (decimal (unsigned_abs z))
+length_below z h = rw (signed_below z h) (omega arith)
 
-module _ (bits k : ℕ) where
-  pub low-size : bits < 2147483648 → k ≡ width bits → (k ≡ length (signed_decimal (to_z w32 bits))) × (k ≤ 11)
-  low-size h e =
-      let m = width-most bits in
-      (e ∙ sym (ap length (signed_low bits h) ∙ decimal-length bits), omega arith)
+pub ruleset signed_sizes = (length_from, length_below, decimal-length, width-most)
 
-  pub high-size : (m : ℕ) → 2147483648 ≤ bits → bits < 4294967296 → m ≡ 4294967296 - bits → k ≡ width m
-      → (1 + k ≡ length (signed_decimal (to_z w32 bits))) × (1 + k ≤ 11)
-  high-size m h g e w =
-      let most = width-most m in
-      let l = ap length (signed_high bits h g) in
-      let d = decimal-length (4294967296 - bits) in
-      let f = ap width e in
-      (omega arith, omega arith)
-
-module _ (t : List ℕ) (at bits : ℕ) where
-  pub put_low : (r : ℕ) (t' : List ℕ) → bits < 2147483648 → (r ≡ at + length (decimal bits)) × (t' ≡ sets t at (decimal bits))
-      → (r ≡ at + length (signed_decimal (to_z w32 bits))) × (t' ≡ sets t at (signed_decimal (to_z w32 bits)))
-  put_low r t' h q = rw (signed_low bits h) q
-
-  pub put-high : (m r : ℕ) (t' : List ℕ) → 2147483648 ≤ bits → bits < 4294967296 → m ≡ 4294967296 - bits
-      → (r ≡ at + 1 + length (decimal m)) × (t' ≡ sets (set t at 45) (at + 1) (decimal m))
-      → (r ≡ at + length (signed_decimal (to_z w32 bits))) × (t' ≡ sets t at (signed_decimal (to_z w32 bits)))
-  put-high m r t' h g e q =
-      let l = ap (λ (n : ℕ). length (decimal n)) e in
-      rw (signed_high bits h g)
-      (omega (arith, q.0), q.1 ∙ rw (e, add-one at))
+pub ruleset signs = (signed_from, signed_below, length_from, length_below, length-set, add-one)

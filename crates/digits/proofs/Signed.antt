@@ -8,13 +8,13 @@ use native.Mathlib.Omega.{arith}
 use lib.Dec.{eqb, ltb}
 use lib.ListN.{length}
 use lib.IntN.{ℤ, pos, negsuc}
-use borrow.Author.Tests.{le-leb, ltb-true, ltb-false, ne_eqb}
+use borrow.Author.Tests.{le-leb, ltb-false, ne_eqb}
 use Rattle.words.specs.Signed.{minus, over, Between}
 use Rattle.words.proofs.Sides.{under}
 use Rattle.words.proofs.Bounds.{between-sides}
 use Rattle.digits.specs.Numbers.{digit, all_digits, digits, value_from, value, size_in, has_minus, number_of, value_of, width, decimal, signed_decimal}
 use Rattle.digits.proofs.Laws.{digit-least}
-use Rattle.digits.proofs.Decimal.{decimal-value, decimal-length, last_digits_lem, width-1}
+use Rattle.digits.proofs.Decimal.{decimal-value, decimal-length, last_digits_lem}
 
 -- ---- digits
 
@@ -63,10 +63,11 @@ value-nil [] h = refl
 value-nil (x ∷ l) h = absurd (omega arith)
 
 decimal-some : (n : ℕ) → n < 10000000000 → length (decimal n) ≡ 0 → ⊥
+unfolding width
 decimal-some n h z = by (ltb n 10) refl
   where
     by : (t : Bool) → ltb n 10 ≡ t → ⊥
-    by true e = let w = width-1 n (ltb-true n 10 e) in let l = decimal-length n in omega arith
+    by true e = let w : width n ≡ 1 = rw e in let l = decimal-length n in omega arith
     by false e =
         let low = ltb-false n 10 e in
         let v : n ≡ 0 = sym (decimal-value n h) ∙ value-nil (decimal n) z in

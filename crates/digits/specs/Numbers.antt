@@ -2,7 +2,19 @@
 -- minus.
 use Rattle.std.specs.Prelude.{ℕ, zero, suc, ◌+◌, ◌-◌, ◌*◌, ◌/◌, ◌%◌, List, [], ◌∷◌, ◌++◌, Bool, true, false, cond, drop, eqb, ltb, leb, ℤ, pos, negsuc}
 use Rattle.words.specs.Signed.{minus}
-use Rattle.digits.specs.declared.Number.{Number}
+use Rattle.std.specs.Prelude.{Option, Some, None}
+use Rattle.digits.specs.declared.Number.{Number as Handed}
+
+-- what the bytes of a cell say: whether they are a number of its range; if so, whether a minus stands before it, and its size
+pub record Number : Type 0 where
+  pub ok : Bool
+  pub negative : Bool
+  pub size : ℕ
+
+-- a number as the code hands it out
+abbrev pub number_read : Option Handed → Number
+number_read None = record { ok = false; negative = false; size = 0 }
+number_read (Some n) = record { ok = true; negative = n.negative; size = n.size }
 
 -- ---- read
 

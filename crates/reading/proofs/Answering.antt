@@ -1,6 +1,8 @@
 -- The answer by what the first pass counted, and the lent slice behind the second. Assumes nothing.
-use mathlib.Core.Path.{◌≡◌, ap, ap₂, sym, ◌∙◌}
-use mathlib.Core.Bool.{true, false}
+use mathlib.Core.Path.{◌≡◌, refl, ap, ap₂, sym, ◌∙◌}
+use mathlib.Core.Bool.{true, false, false≢true}
+use Rattle.std.specs.Prelude.{Option, Some, None}
+use Rattle.std.specs.Option.{is_some}
 use mathlib.Core.List.{List, [], ◌∷◌, ◌++◌}
 use Prim.Native.Nat.{ℕ, ◌+◌, ◌≤◌, ◌<◌}
 use native.Mathlib.Omega.{arith}
@@ -16,8 +18,8 @@ use Rattle.rows.specs.Columns.{fields_of}
 use Rattle.rows.specs.Reading.{blocks_in, circuit_of, room_answer, answer_by, read_answer, laid_over, circuit_after}
 use Rattle.rows.proofs.Laid.{sets-append, laid-sets}
 use Rattle.rows.proofs.Outcome.{room-many, room-short, room-enough}
-use Rattle.reading.specs.declared.Counted.{Counted}
-use Rattle.reading.specs.Counted.{Surveys}
+use Rattle.reading.specs.Counted.{Counted}
+use Rattle.reading.specs.Counted.{Surveys, is_over}
 use Rattle.reading.proofs.Sizes.{header-length, circuit-length}
 use Rattle.reading.proofs.Putting.{end-put}
 
@@ -91,3 +93,12 @@ written_after s lent a b left blocks rows end n room k p q e r =
     let w : left ≡ laid_over (circuit_of (rows_of s)) lent =
     laid s lent a b left end p' q e (end-put b left end r) ∙ laid-sets (circuit_of (rows_of s)) lent (omega arith) in
     rw (eq-eqb (read_answer s (length lent)).number 0 z) w
+
+-- whether the room was gone over
+pub gone_over : (left : Option ℕ) → is_some left ≡ false → is_over left ≡ true
+gone_over None e = refl
+gone_over (Some n) e = absurd (false≢true (sym e))
+
+pub not_over : (left : Option ℕ) → is_some left ≡ true → is_over left ≡ false
+not_over None e = absurd (false≢true e)
+not_over (Some n) e = refl

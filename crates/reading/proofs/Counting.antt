@@ -14,8 +14,8 @@ use Rattle.kept.proofs.Lists.{joined_snoc}
 use Rattle.rows.specs.Text.{TextRow}
 use Rattle.rows.specs.Columns.{fields_of, is_block}
 use Rattle.rows.specs.Reading.{sound, reading_from, blocks_in}
-use Rattle.reading.specs.declared.Judged.{Judged}
-use Rattle.reading.specs.declared.Counted.{Counted}
+use Rattle.reading.specs.Counted.{Judged}
+use Rattle.reading.specs.Counted.{Counted}
 use Rattle.reading.specs.Counted.{row_at, Judges, opened_with, counted_with}
 use Rattle.reading.proofs.Passed.{sound_more}
 
@@ -106,30 +106,23 @@ counts-more s at room rows c r k j z =
 
 -- ---- as the code makes them
 
-pub opened-short : (room : ℕ) → room < 9 → record { number = 0; rows = 0; blocks = 0; over = true; left = 0 } ≡ opened_with room
+pub opened-as : (room : ℕ) (o : Bool) (n : ℕ) → o ≡ cond (ltb room 9) true false → n ≡ room - 9
+    → record { number = 0; rows = 0; blocks = 0; over = o; left = n } ≡ opened_with room
 unfolding opened_with
-opened-short room h = let z : room - 9 ≡ 0 = omega arith in rw (lt-ltb room 9 h, z)
-
-pub opened-wide : (room : ℕ) → 9 ≤ room → record { number = 0; rows = 0; blocks = 0; over = false; left = room - 9 } ≡ opened_with room
-unfolding opened_with
-opened-wide room h = rw (le-ltb room 9 h)
-
-pub one_at_most : (b : Bool) → bool_byte b ≤ 1
-one_at_most true = omega arith
-one_at_most false = omega arith
+opened-as room o n e f = rw (e, f) (by (ltb room 9))
+  where
+    by : (t : Bool) → ◌≡◌ {A = Counted} (record { number = 0; rows = 0; blocks = 0; over = cond t true false; left = room - 9 }) (record { number = 0; rows = 0; blocks = 0; over = t; left = room - 9 })
+    by true = refl
+    by false = refl
 
 -- a bit as a number
 bit-counts : (b : Bool) → bool_byte b ≡ cond b 1 0
 bit-counts true = refl
 bit-counts false = refl
 
-module _ (c : Counted) (r : Judged) where
-  pub counted-over : c.left < r.size
-      → record { number = r.number; rows = c.rows + 1; blocks = c.blocks + bool_byte r.block; over = true; left = 0 } ≡ counted_with c r
-  unfolding counted_with
-  counted-over h = let z : c.left - r.size ≡ 0 = omega arith in rw (lt-ltb c.left r.size h, z, bit-counts r.block)
+pub counted-as : (c : Counted) (r : Judged) (o : Bool) (n : ℕ) → o ≡ cond (ltb c.left r.size) true c.over → n ≡ c.left - r.size
+    → record { number = r.number; rows = c.rows + 1; blocks = c.blocks + bool_byte r.block; over = o; left = n } ≡ counted_with c r
+unfolding counted_with
+counted-as c r o n e f = rw (e, f, bit-counts r.block)
 
-  pub counted-within : r.size ≤ c.left
-      → record { number = r.number; rows = c.rows + 1; blocks = c.blocks + bool_byte r.block; over = c.over; left = c.left - r.size } ≡ counted_with c r
-  unfolding counted_with
-  counted-within h = rw (le-ltb c.left r.size h, bit-counts r.block)
+pub ruleset tests = (lt-ltb, le-ltb)

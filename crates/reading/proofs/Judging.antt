@@ -1,22 +1,29 @@
 -- What is held of a row that was split and shaped, and what each outcome says of the row. Assumes nothing.
 use mathlib.Core.Path.{◌≡◌, refl, ap, ap₂, sym, ◌∙◌, subst}
-use mathlib.Core.Bool.{Bool, true, false}
+use mathlib.Core.Bool.{Bool, true, false, false≢true}
 use mathlib.Core.List.{List, ◌++◌}
-use Prim.Native.Nat.{ℕ, ◌+◌, ◌-◌, ◌*◌, ◌≤◌}
+use Prim.Native.Nat.{ℕ, ◌+◌, ◌-◌, ◌*◌, ◌≤◌, ◌<◌}
 use native.Mathlib.Omega.{arith}
 use lib.ListN.{length, drop}
 use lib.Seq.{sets}
-use Rattle.digits.specs.declared.Number.{Number}
+use Rattle.digits.specs.Numbers.{Number}
 use Rattle.digits.specs.Numbers.{number_of}
 use Rattle.kept.specs.Keeps.{field}
-use Rattle.rows.specs.declared.Shape.{Shape}
+use Rattle.rows.specs.Shape.{Shape}
 use Rattle.rows.specs.Text.{text_row}
 use Rattle.rows.specs.Columns.{nth, shape_of, columns_of, numbers_in, widths, widths_of, numbers_fit, numbers_bytes, label_fits, label_field, mark_said, mark_of, label_of, is_shaped, is_fit, row_number, fields_by, fields_of, is_block}
 use Rattle.rows.proofs.Laid.{sets-append}
-use Rattle.splitting.specs.declared.Found.{Found}
-use Rattle.splitting.specs.Found.{Lies, LieAll, Says, said_at, Finds}
-use Rattle.reading.specs.declared.Judged.{Judged}
-use Rattle.reading.specs.declared.Placed.{Placed}
+use Rattle.splitting.specs.Found.{Found}
+use Rattle.std.specs.Prelude.{Option, Some, None}
+use Rattle.std.specs.Option.{IsSome}
+use Rattle.rows.specs.declared.shape.Shape.{Shape as Known}
+use Rattle.rows.specs.Shape.{shape_said}
+use Rattle.splitting.specs.declared.held.Span.{Span}
+use Rattle.splitting.specs.declared.row.Row.{Row}
+use Rattle.splitting.specs.Spans.{starts_of, sizes_of}
+use Rattle.splitting.specs.Found.{found_of, Says, SaysOf, said_at, Finds}
+use Rattle.reading.specs.Counted.{Judged}
+use Rattle.reading.specs.declared.second_pass.Placed.{Placed}
 use Rattle.reading.specs.Counted.{row_at, mark_in, label_in, label_field_in, Goes, Judges, Puts}
 use Rattle.reading.proofs.Rules.{broken, unshaped, unfit, faultless, passes, unknown-shape, other-columns, its-columns, shaped-columns, misfit-numbers, fit-output, fit-block}
 use Rattle.reading.proofs.Sizes.{fields-output, fields-block, field-size, size-output, size-block}
@@ -28,6 +35,23 @@ pub record Held (s : List ℕ) (at : ℕ) (f : Found) (starts sizes : List ℕ) 
   pub shape : sh ≡ shape_of (said_at s at)
   pub inputs : sh.inputs ≤ 4
   pub numbers : 2 * sh.inputs + sh.parameters ≤ 11
+
+-- as the code has them
+pub holds : (s : List ℕ) (at : ℕ) (spans : List Span) (row : Row) (shape : Option Known) → Finds s at (found_of (Some row)) (starts_of spans) (sizes_of spans)
+    → ((cells : List (List ℕ)) → SaysOf s spans cells → row.count ≡ length cells → shape_said shape ≡ shape_of cells)
+    → Held s at (found_of (Some row)) (starts_of spans) (sizes_of spans) (shape_said shape)
+holds s at spans row None F h =
+    record { finds = F; whole = refl; shape = h (said_at s at) (F.says refl) (F.count refl); inputs = omega arith; numbers = omega arith }
+holds s at spans row (Some shape) F h =
+    record { finds = F; whole = refl; shape = h (said_at s at) (F.says refl) (F.count refl); inputs = shape.few.0; numbers = shape.few.1 }
+
+pub some_row : (row : Option Row) → (found_of row).whole ≡ true → IsSome row
+some_row None e = absurd (false≢true e)
+some_row (Some row) e = refl
+
+pub some_shape : (shape : Option Known) → (shape_said shape).known ≡ true → IsSome shape
+some_shape None e = absurd (false≢true e)
+some_shape (Some shape) e = refl
 
 -- with as many columns as its shape wants
 pub record Fills (s : List ℕ) (at : ℕ) (f : Found) (starts sizes : List ℕ) (sh : Shape) : Type 0 where
@@ -99,13 +123,6 @@ module _ (s : List ℕ) (at : ℕ) (f : Found) (starts sizes : List ℕ) where
       unfolding columns_of numbers_in
       numbers-many = let a = K.columns in let b = cells_count K.held in omega arith
 
-      pub numbers-lie : LieAll s starts sizes (3 + 2 * sh.inputs + sh.parameters)
-      numbers-lie j h =
-          let a = numbers-many in
-          let b = cells_count K.held in
-          let n = K.held.numbers in
-          K.held.finds.lie K.held.whole j (omega arith) (omega arith)
-
       -- the fields and the sort of the row
       fields-as : fields_by sh (said_at s at) ≡ fields_of (row_at s at)
       unfolding fields_of text_row
@@ -156,17 +173,11 @@ module _ (s : List ℕ) (at : ℕ) (f : Found) (starts sizes : List ℕ) where
         unfolding numbers_in
         few-label = let n = K.held.numbers in omega arith
 
-        pub mark-lies : Lies s starts sizes (f.count - 2)
-        mark-lies =
+        pub label-few : f.count - 2 + 1 < 16
+        label-few =
             let a = label-count in
             let b = few-label in
-            K.held.finds.lie K.held.whole (f.count - 2) (omega arith) (omega arith)
-
-        pub label-lies : Lies s starts sizes (f.count - 2 + 1)
-        label-lies =
-            let a = label-count in
-            let b = few-label in
-            K.held.finds.lie K.held.whole (f.count - 2 + 1) (omega arith) (omega arith)
+            omega arith
 
         mark-as : mark_in s starts sizes (f.count - 2) ≡ mark_said (mark_of sh (said_at s at))
         mark-as =

@@ -7,7 +7,7 @@ use lib.ListN.{length, set}
 use lib.Seq.{sets}
 use Rattle.words.specs.Bytes.{bytes_of}
 use Rattle.words.proofs.Written.{length-bytes}
-use Rattle.digits.specs.declared.Number.{Number}
+use Rattle.digits.specs.Numbers.{Number}
 use Rattle.kept.specs.Keeps.{field}
 use Rattle.rows.specs.Columns.{label_field}
 use Rattle.rows.proofs.Laid.{sets-append, sets-comm}

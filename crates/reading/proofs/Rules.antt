@@ -2,12 +2,12 @@
 use mathlib.Core.Path.{◌≡◌, refl, sym, ◌∙◌}
 use mathlib.Core.Bool.{Bool, true, false}
 use mathlib.Core.List.{List}
-use Prim.Native.Nat.{ℕ, ◌+◌, ◌*◌}
+use Prim.Native.Nat.{ℕ}
 use native.Mathlib.Omega.{arith}
 use lib.Dec.{eqb}
 use lib.ListN.{length, drop}
 use borrow.Author.Tests.{eq-eqb, ne_eqb, eqb-true}
-use Rattle.rows.specs.declared.Shape.{Shape}
+use Rattle.rows.specs.Shape.{Shape}
 use Rattle.rows.specs.Text.{TextRow}
 use Rattle.rows.specs.Columns.{shape_of, columns_of, numbers_in, widths_of, numbers_fit, label_fits, mark_said, mark_of, label_of, is_shaped, is_fit, row_faults, row_number}
 
@@ -59,6 +59,13 @@ module _ (sh : Shape) (cells : List (List ℕ)) where
   unfolding is_shaped columns_of numbers_in
   its-columns k n = rw (k, eq-eqb (length cells) (columns_of sh) n)
 
+  known-by : (k : Bool) → sh.known ≡ k → is_shaped sh cells ≡ true → sh.known ≡ true
+  known-by true e p = e
+  known-by false e p = absurd (let q : false ≡ true = sym (unknown-shape e) ∙ p in let z : ◌≡◌ {A = ℕ} 0 1 = cc in omega arith)
+
+  pub shaped-known : is_shaped sh cells ≡ true → sh.known ≡ true
+  shaped-known p = known-by sh.known refl p
+
   columns-by : (k : Bool) → sh.known ≡ k → is_shaped sh cells ≡ true → length cells ≡ columns_of sh
   unfolding is_shaped columns_of numbers_in
   columns-by false e p = absurd (let q : false ≡ true = sym (unknown-shape e) ∙ p in let z : ◌≡◌ {A = ℕ} 0 1 = cc in omega arith)
@@ -66,16 +73,6 @@ module _ (sh : Shape) (cells : List (List ℕ)) where
 
   pub shaped-columns : is_shaped sh cells ≡ true → length cells ≡ columns_of sh
   shaped-columns p = columns-by sh.known refl p
-
--- how many columns
-
-pub columns-block : (sh : Shape) (n : ℕ) → sh.labelled ≡ true → n ≡ 2 + 2 * sh.inputs + sh.parameters → 1 + n + 2 ≡ columns_of sh
-unfolding columns_of numbers_in
-columns-block sh n l e = rw (l, e)
-
-pub columns-output : (sh : Shape) (n : ℕ) → sh.labelled ≡ false → n ≡ 2 + 2 * sh.inputs + sh.parameters → 1 + n ≡ columns_of sh
-unfolding columns_of numbers_in
-columns-output sh n l e = rw (l, e) (omega arith)
 
 -- ---- the third: each number fits, and the label of a block
 

@@ -8,9 +8,9 @@ use lib.ListN.{length, drop, length-append, length-drop}
 use borrow.Author.Tests.{eq-eqb, ne_eqb}
 use Rattle.words.specs.Bytes.{bytes_of}
 use Rattle.words.proofs.Written.{length-bytes}
-use Rattle.digits.specs.declared.Number.{Number}
+use Rattle.digits.specs.Numbers.{Number}
 use Rattle.kept.specs.Keeps.{joined, field}
-use Rattle.rows.specs.declared.Shape.{Shape}
+use Rattle.rows.specs.Shape.{Shape}
 use Rattle.rows.specs.Text.{TextRow}
 use Rattle.rows.specs.Columns.{widths_of, numbers_bytes, label_field, label_of, mark_of, mark_said, fields_by, fields_of}
 use Rattle.rows.specs.Reading.{blocks_in, circuit_of}

@@ -12,33 +12,34 @@ use Rattle.rows.specs.Text.{TextRow, rows_of}
 use Rattle.rows.specs.Columns.{row_number, fields_of}
 use Rattle.rows.specs.Reading.{faulty, sound, reading_from, blocks_in, circuit_of}
 use Rattle.rows.proofs.Laid.{sets-append}
-use Rattle.reading.specs.declared.Judged.{Judged}
-use Rattle.reading.specs.declared.Counted.{Counted}
-use Rattle.reading.specs.declared.Placed.{Placed}
-use Rattle.reading.specs.Counted.{row_at, Goes, Judges, Puts, opened_with, counted_with, Surveys}
+use Rattle.reading.specs.Counted.{Judged}
+use Rattle.reading.specs.Counted.{Counted}
+use Rattle.reading.specs.declared.second_pass.Placed.{Placed}
+use Rattle.std.specs.Prelude.{Err}
+use Rattle.refusals.specs.declared.Refusal.{Refusal}
+use Rattle.refusals.specs.Refusals.{number_of}
+use Rattle.refusals.proofs.Numbers.{number-above}
+use Rattle.reading.specs.Counted.{judged_of, surveyed_of, row_at, Goes, Judges, Puts, opened_with, counted_with, Surveys}
 use Rattle.reading.proofs.Passed.{Passed, none_passed, all-passed, row-comes, one_more, fault-behind, sound-each}
 use Rattle.reading.proofs.Sizes.{circuit-length}
 use Rattle.reading.proofs.Counting.{Counts, counts-none, counts-more, blocks-few}
 
 -- ---- the first pass
 
-pub record Surveyed (s : List ℕ) (room at : ℕ) (starts sizes : List ℕ) (c : Counted) : Type 0 where
+pub record Surveyed (s : List ℕ) (room at : ℕ) (c : Counted) : Type 0 where
   pub before : List TextRow
   pub passed : Passed s at before
   pub counts : Counts room before c
   pub inside : at ≤ length s
   pub few : c.rows ≤ at
-  pub starts-long : length starts ≡ 16
-  pub sizes-long : length sizes ≡ 16
 
-pub surveyed-none : (s : List ℕ) (room : ℕ) (starts sizes : List ℕ) (c : Counted) → c ≡ opened_with room → length starts ≡ 16 → length sizes ≡ 16
-    → Surveyed s room 0 starts sizes c
-surveyed-none s room starts sizes c e a b =
+pub surveyed-none : (s : List ℕ) (room : ℕ) (c : Counted) → c ≡ opened_with room → Surveyed s room 0 c
+surveyed-none s room c e =
     let k : Counts room [] c = subst (Counts room []) (sym e) (counts-none room) in
     let n : c.rows ≡ 0 = k.many in
-    record { before = []; passed = none_passed s; counts = k; inside = omega arith; few = omega arith; starts-long = a; sizes-long = b }
+    record { before = []; passed = none_passed s; counts = k; inside = omega arith; few = omega arith }
 
-module _ (s : List ℕ) (room at : ℕ) (starts sizes : List ℕ) (c : Counted) (v : Surveyed s room at starts sizes c) where
+module _ (s : List ℕ) (room at : ℕ) (c : Counted) (v : Surveyed s room at c) where
   pub fewer-blocks : c.blocks ≤ c.rows
   fewer-blocks =
       let a = v.counts.blocks in
@@ -57,31 +58,27 @@ module _ (s : List ℕ) (room at : ℕ) (starts sizes : List ℕ) (c : Counted) 
         over = λ z. v.counts.takes.goes_over ∙ ap (ltb room) (sym (circuit-length v.before) ∙ ap (λ l. length (circuit_of l)) (sym all));
       }
 
-  module _ (h : at < length s) (r : Judged) (j : Judges s at r) (c' : Counted) (e : c' ≡ counted_with c r) where
-    pub surveyed-fault : (r.number ≡ 0 → ⊥) → Surveys s room c'
-    unfolding counted_with
-    surveyed-fault n =
+  module _ (h : at < length s) where
+    pub surveyed-fault : (refusal : Refusal) → Judges s at (judged_of (Err refusal)) → Surveys s room (surveyed_of (Err (record { refusal = refusal; place = c.rows + 1 })))
+    surveyed-fault refusal j =
         let x = row-comes s at v.before h v.passed in
-        let number : c'.number ≡ r.number = ap (λ (y : Counted). y.number) e in
-        let rows : 1 + length v.before ≡ c'.rows =
-        let a : c'.rows ≡ c.rows + 1 = ap (λ (y : Counted). y.rows) e in let b = v.counts.many in omega arith in
-        let no : c'.number ≡ 0 → ⊥ = λ z. n (sym number ∙ z) in
+        let rows : 1 + length v.before ≡ c.rows + 1 = let b = v.counts.many in omega arith in
+        let no : number_of refusal ≡ 0 → ⊥ = λ z. omega (arith, number-above refusal) in
         record {
           faulted =
               λ z.
               ap (reading_from 1) x.is
-              ∙ fault-behind v.before (row_at s at) x.rest r.number v.counts.clean j.number n
-              ∙ ap₂ faulty (sym number) rows;
+              ∙ fault-behind v.before (row_at s at) x.rest (number_of refusal) v.counts.clean j.number no
+              ∙ ap (faulty (number_of refusal)) rows;
           clean = λ z. absurd (no z);
           rows = λ z. absurd (no z);
           blocks = λ z. absurd (no z);
           over = λ z. absurd (no z);
         }
 
-    pub surveyed-more : (starts' sizes' : List ℕ) → r.number ≡ 0 → length starts' ≡ 16 → length sizes' ≡ 16
-        → Surveyed s room r.next starts' sizes' c'
+    pub surveyed-more : (r : Judged) → Judges s at r → r.number ≡ 0 → (c' : Counted) → c' ≡ counted_with c r → Surveyed s room r.next c'
     unfolding counted_with
-    surveyed-more starts' sizes' z a b =
+    surveyed-more r j z c' e =
         let g : Goes s at r.next = j.goes z in
         let o : at < r.next = g.on in
         let rows : c'.rows ≡ c.rows + 1 = ap (λ (y : Counted). y.rows) e in
@@ -92,26 +89,22 @@ module _ (s : List ℕ) (room at : ℕ) (starts sizes : List ℕ) (c : Counted) 
           counts = subst (Counts room (v.before ++ (row_at s at ∷ []))) (sym e) (counts-more s at room v.before c r v.counts j z);
           inside = g.inside;
           few = omega arith;
-          starts-long = a;
-          sizes-long = b;
         }
 
 -- ---- the second pass
 
-pub record Written (s lent : List ℕ) (at to : ℕ) (left starts sizes : List ℕ) : Type 0 where
+pub record Written (s lent : List ℕ) (at to : ℕ) (left : List ℕ) : Type 0 where
   pub before : List TextRow
   pub passed : Passed s at before
   pub bytes : left ≡ sets lent 6 (joined fields_of before)
   pub reached : to ≡ 6 + length (joined fields_of before)
   pub inside : at ≤ length s
-  pub starts-long : length starts ≡ 16
-  pub sizes-long : length sizes ≡ 16
 
-pub written_none : (s lent starts sizes : List ℕ) → length starts ≡ 16 → length sizes ≡ 16 → Written s lent 0 6 lent starts sizes
-written_none s lent starts sizes a b =
-    record { before = []; passed = none_passed s; bytes = refl; reached = refl; inside = omega arith; starts-long = a; sizes-long = b }
+pub written_none : (s lent : List ℕ) → Written s lent 0 6 lent
+written_none s lent =
+    record { before = []; passed = none_passed s; bytes = refl; reached = refl; inside = omega arith }
 
-module _ (s lent : List ℕ) (at to : ℕ) (left starts sizes : List ℕ) (v : Written s lent at to left starts sizes) where
+module _ (s lent : List ℕ) (at to : ℕ) (left : List ℕ) (v : Written s lent at to left) where
   pub same-room : length left ≡ length lent
   same-room = ap length v.bytes ∙ length-sets lent 6 (joined fields_of v.before)
 
@@ -137,9 +130,8 @@ module _ (s lent : List ℕ) (at to : ℕ) (left starts sizes : List ℕ) (v : W
         let g = v.reached in
         omega arith
 
-    pub written-more : (r : Placed) (left' starts' sizes' : List ℕ) → Puts s at to r left left' → length starts' ≡ 16 → length sizes' ≡ 16
-        → Written s lent r.next r.end left' starts' sizes'
-    written-more r left' starts' sizes' p a b =
+    pub written-more : (r : Placed) (left' : List ℕ) → Puts s at to r left left' → Written s lent r.next r.end left'
+    written-more r left' p =
         let J : List ℕ = joined fields_of v.before in
         let x : List ℕ = fields_of (row_at s at) in
         let m : joined fields_of (v.before ++ (row_at s at ∷ [])) ≡ J ++ x = joined_snoc fields_of v.before (row_at s at) in
@@ -158,6 +150,4 @@ module _ (s lent : List ℕ) (at to : ℕ) (left starts sizes : List ℕ) (v : W
               let g = v.reached in
               omega arith;
           inside = p.goes.inside;
-          starts-long = a;
-          sizes-long = b;
         }

@@ -1,16 +1,66 @@
 -- What the passes over the rows carry. Not part of what a reader has to believe.
 use Rattle.std.specs.Prelude.{ℕ, ◌+◌, ◌-◌, ◌≤◌, ◌<◌, ◌≡◌, Bool, true, cond, List, ltb, length, get_or}
 use Rattle.std.proofs.lemmas.List.Edits.{sets}
-use Rattle.digits.specs.declared.Number.{Number}
+use Rattle.digits.specs.Numbers.{Number}
 use Rattle.digits.specs.Numbers.{number_of}
 use Rattle.rows.specs.Text.{split_at, text_row, TextRow, rows_of}
 use Rattle.rows.specs.Columns.{label_fits, label_field, row_number, fields_of, is_block}
 use Rattle.rows.specs.Reading.{faulty, sound, reading_from, blocks_in, circuit_of}
 use Rattle.splitting.specs.Found.{text_in, content_in}
-use Rattle.reading.specs.declared.Judged.{Judged}
-use Rattle.reading.specs.declared.Counted.{Counted}
-use Rattle.reading.specs.declared.Label.{Label}
-use Rattle.reading.specs.declared.Placed.{Placed}
+use Rattle.std.specs.Prelude.{false, Option, Some, None, Result, Ok, Err}
+use Rattle.refusals.specs.declared.Refusal.{Refusal}
+use Rattle.refusals.specs.declared.Refused.{Refused}
+use Rattle.refusals.specs.Refusals.{number_of as refusal_number}
+use Rattle.reading.specs.declared.first_pass.Judged.{Judged as Passed}
+use Rattle.reading.specs.declared.first_pass.Counted.{Counted as Tally}
+use Rattle.reading.specs.declared.second_pass.Placed.{Placed}
+
+-- ---- what the code carries, by numbers and flags
+
+-- a row that was judged: refusal number or 0; how many bytes its fields take; whether it is a block's; where the next row begins
+pub record Judged : Type 0 where
+  pub number : ℕ
+  pub size : ℕ
+  pub block : Bool
+  pub next : ℕ
+
+abbrev pub judged_of : Result Passed Refusal → Judged
+judged_of (Ok r) = record { number = 0; size = r.size; block = r.block; next = r.next }
+judged_of (Err refusal) = record { number = refusal_number refusal; size = 0; block = false; next = 0 }
+
+-- what the pass over all rows counted: refusal number or 0; rows, the faulty one among them; blocks; whether the fields go over the room,
+-- and else how much of it is left
+pub record Counted : Type 0 where
+  pub number : ℕ
+  pub rows : ℕ
+  pub blocks : ℕ
+  pub over : Bool
+  pub left : ℕ
+
+-- what is left of a room, and whether it was gone over
+abbrev pub is_over : Option ℕ → Bool
+is_over None = true
+is_over (Some n) = false
+
+abbrev pub rest_of : Option ℕ → ℕ
+rest_of None = 0
+rest_of (Some n) = n
+
+abbrev pub counted_of : Tally → Counted
+counted_of c = record { number = 0; rows = c.rows; blocks = c.blocks; over = is_over c.left; left = rest_of c.left }
+
+abbrev pub surveyed_of : Result Tally Refused → Counted
+surveyed_of (Ok c) = counted_of c
+surveyed_of (Err e) = record { number = refusal_number e.refusal; rows = e.place; blocks = 0; over = false; left = 0 }
+
+-- the cells of a label: whether they fit, and then how many bytes its field takes
+pub record Label : Type 0 where
+  pub fits : Bool
+  pub size : ℕ
+
+abbrev pub label_sized : Option ℕ → Label
+label_sized None = record { fits = false; size = 0 }
+label_sized (Some n) = record { fits = true; size = n }
 
 -- ---- a row
 

@@ -14,7 +14,7 @@ use Rattle.words.proofs.Bounds.{and-true}
 use Rattle.kinds.specs.Kinds.{known}
 use Rattle.refusals.proofs.Tests.{none-holds}
 use Rattle.kept.specs.Keeps.{field}
-use Rattle.digits.specs.declared.Number.{Number}
+use Rattle.digits.specs.Numbers.{Number}
 use Rattle.digits.specs.Numbers.{digits, value, size_in, has_minus, number_of, value_of}
 use Rattle.rows.specs.Shape.{Shape}
 use Rattle.rows.specs.Text.{TextRow}

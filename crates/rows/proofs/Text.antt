@@ -9,7 +9,7 @@ use lib.Dec.{eqb}
 use lib.ListN.{length, drop, length-append, length-drop}
 use lib.Seq.{drop-drop, drop-append_seam}
 use borrow.Author.Tests.{eq-eqb, ne_eqb, lt-ltb, le-ltb}
-use Rattle.cells.specs.declared.Cell.{Cell}
+use Rattle.cells.specs.Cells.{Cell}
 use Rattle.cells.specs.Cells.{starts, ending, ending_size, cell_at, content, write_cell}
 use Rattle.cells.proofs.Again.{cell-again}
 use Rattle.kept.specs.Keeps.{All, joined}

@@ -6,7 +6,7 @@ use Rattle.std.proofs.Common.{of_z}
 use Rattle.words.specs.Bytes.{bytes_of}
 use Rattle.kinds.specs.Kinds.{kind_of, known}
 use Rattle.refusals.specs.Faults.{Fault, lowest, ◌when◌}
-use Rattle.digits.specs.declared.Number.{Number}
+use Rattle.digits.specs.Numbers.{Number}
 use Rattle.digits.specs.Numbers.{number_of, value_of}
 use Rattle.kept.specs.Keeps.{field}
 use Rattle.rows.specs.Shape.{Shape}

@@ -1,6 +1,6 @@
 -- A text is rows of cells: RFC 4180 as document 02 takes it, and "Forms that document 02 leans on" of document 01.
 use Rattle.std.specs.Prelude.{ℕ, zero, suc, Bool, true, false, List, [], ◌∷◌, map, eqb, ltb, length}
-use Rattle.cells.specs.declared.Cell.{Cell}
+use Rattle.cells.specs.Cells.{Cell}
 use Rattle.cells.specs.Cells.{cell_at, content}
 
 -- ---- a row: cells parted by commas, up to a line end or the end of the text

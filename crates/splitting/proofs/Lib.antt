@@ -1,3 +1,4 @@
+pub mod Spans
 pub mod Walk
 pub mod Numbers
 pub mod Shapes

@@ -9,16 +9,15 @@ use lib.Dec.{eqb, leb}
 use lib.ListN.{length, drop, drop_of_length-le}
 use lib.Seq.{drop-cons}
 use borrow.Author.Tests.{leb-true}
-use Rattle.digits.specs.declared.Number.{Number}
-use Rattle.digits.specs.Numbers.{digits, value, size_in, has_minus, number_of, value_of}
+use Rattle.digits.specs.Numbers.{Number}
+use Rattle.std.specs.Prelude.{Option, Some, None}
+use Rattle.std.specs.Option.{is_some}
+use Rattle.digits.specs.declared.Number.{Number as Handed}
+use Rattle.digits.specs.Numbers.{number_read, digits, value, size_in, has_minus, number_of, value_of}
 use Rattle.rows.specs.Columns.{below_of, above_of, said_in, packed, widths, numbers_fit, numbers_bytes, nth}
 use Rattle.rows.specs.Widths.{width_at}
 use Rattle.rows.proofs.Widths.{width_is, widths-length, total}
 use Rattle.splitting.specs.Found.{text_in, Says}
-
-pub said-is : (w b a : ℕ) (l : List ℕ) (r : Number) → b ≡ below_of w → a ≡ above_of w → r ≡ number_of b a l → r ≡ said_in w l
-unfolding said_in
-said-is w b a l r p q e = e ∙ rw (p, q)
 
 -- a held cell says what the cell says
 pub said_same : (s starts sizes : List ℕ) (cells : List (List ℕ)) (w j : ℕ) (n : Number) → Says s starts sizes cells → j < length cells → j < 16
@@ -66,6 +65,11 @@ above-small w = by (eqb w 4) (eqb w 2)
 pub said-small : (w : ℕ) (l : List ℕ) (n : Number) → n ≡ said_in w l → n.size ≤ 2147483648
 unfolding said_in
 said-small w l n e = rw e (number_small (below_of w) (above_of w) 2147483648 l (below-small w) (above-small w))
+
+-- a number for one byte is one
+pub said-byte : (l : List ℕ) (n : Number) → n ≡ said_in 1 l → n.size ≤ 255
+unfolding said_in below_of above_of
+said-byte l n e = rw e (number_small 0 255 255 l (omega arith) (omega arith))
 
 -- ---- place by place
 
@@ -129,3 +133,8 @@ module _ (i p j : ℕ) (h : 2 + 2 * i + p ≤ j) (cells : List (List ℕ)) where
 
   pub bytes-done : numbers_bytes (drop j (widths i p)) cells ≡ []
   bytes-done = rw widths-out (bytes-nil cells)
+
+-- whether there is one
+pub is_said : (r : Option Handed) (b : Bool) → is_some r ≡ b → (number_read r).ok ≡ b
+is_said None b e = e
+is_said (Some n) b e = e

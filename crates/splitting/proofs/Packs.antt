@@ -1,10 +1,9 @@
--- Numbers put into bytes: the bits of a number, its bytes by width, and one place after the other. Assumes nothing.
-use mathlib.Core.Path.{◌≡◌, refl, ap, sym, ◌∙◌}
+-- Numbers put into bytes: by width, and one place after the other. Assumes nothing.
+use mathlib.Core.Path.{◌≡◌, ap, sym, ◌∙◌}
 use mathlib.Core.Bool.{Bool, true, false, cond}
 use mathlib.Core.List.{List, ◌++◌}
-use Prim.Native.Nat.{ℕ, zero, suc, ◌+◌, ◌-◌, ◌*◌, ◌%◌, ◌≤◌, ◌<◌}
+use Prim.Native.Nat.{ℕ, ◌+◌, ◌*◌, ◌%◌, ◌≤◌, ◌<◌}
 use native.Mathlib.Nat.{div-one}
-use native.Mathlib.Omega.{arith}
 use lib.Bits.{bit_and}
 use lib.Dec.{eqb, ltb}
 use lib.ListN.{length, set, drop}
@@ -13,31 +12,14 @@ use lib.IntN.{ℤ}
 use mir.Syntax.{w32}
 use mir.Val.{of_z}
 use Rattle.words.specs.Bytes.{bytes_of}
-use Rattle.words.specs.Signed.{minus}
 use Rattle.words.proofs.Masks.{low_byte}
-use Rattle.digits.specs.declared.Number.{Number}
+use Rattle.digits.specs.Numbers.{Number}
 use Rattle.digits.specs.Numbers.{value_of}
 use Rattle.rows.specs.Columns.{said_in, packed, widths, numbers_bytes, nth}
 use Rattle.rows.specs.Widths.{width_at}
 use Rattle.rows.proofs.Widths.{packed-length}
 use Rattle.rows.proofs.Laid.{sets-append}
 use Rattle.splitting.proofs.Numbers.{bytes_on}
-
--- ---- the bits
-
-bits_below : (m : ℕ) → (m ≡ 0 → ⊥) → 4294967295 - (m - 1) ≡ of_z w32 (minus m)
-bits_below zero n = absurd (n refl)
-bits_below (suc m) n = omega arith
-
-module _ (n : Number) where
-  pub bits-plain : n.negative ≡ false → n.size ≡ of_z w32 (value_of n)
-  bits-plain e = rw e
-
-  pub bits_none : n.negative ≡ true → n.size ≡ 0 → 0 ≡ of_z w32 (value_of n)
-  bits_none e z = rw (e, z)
-
-  pub bits-minus : n.negative ≡ true → (n.size ≡ 0 → ⊥) → 4294967295 - (n.size - 1) ≡ of_z w32 (value_of n)
-  bits-minus e z = rw e (bits_below n.size z)
 
 -- ---- the bytes
 

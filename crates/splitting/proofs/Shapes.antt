@@ -2,33 +2,27 @@
 use mathlib.Core.Path.{◌≡◌, refl}
 use mathlib.Core.Bool.{true, false}
 use mathlib.Core.List.{List, []}
-use Prim.Native.Nat.{ℕ, ◌+◌, ◌*◌, ◌≤◌, ◌<◌}
+use Prim.Native.Nat.{ℕ, ◌<◌}
 use native.Mathlib.Omega.{arith}
 use lib.ListN.{length, get_or-eq_default}
 use borrow.Author.Tests.{eq-eqb, ne_eqb}
-use Rattle.digits.specs.declared.Number.{Number}
+use Rattle.digits.specs.Numbers.{Number}
 use Rattle.digits.specs.Numbers.{digits, size_in, has_minus, number_of}
+use Rattle.std.specs.Prelude.{Result, Ok, Err}
+use Rattle.std.specs.Result.{result_ok}
+use Rattle.kinds.specs.declared.kind.Kind.{Kind}
+use Rattle.kinds.specs.declared.kind.UnknownKind.{UnknownKind}
+use Rattle.kinds.specs.Codes.{Decodes}
 use Rattle.kinds.specs.Kinds.{known}
-use Rattle.rows.specs.declared.Shape.{Shape}
+use Rattle.std.specs.Prelude.{None}
+use Rattle.rows.specs.Shape.{shape_said}
 use Rattle.rows.specs.Columns.{said_in, block_shape, output_shape, no_shape, says, shape_by, shape_of, nth}
 use Rattle.splitting.specs.Found.{text_in, Says}
 use Rattle.splitting.proofs.Numbers.{said_same}
 
-pub record Small (sh : Shape) : Type 0 where
-  pub connectors : sh.inputs ≤ 4
-  pub numbers : 2 * sh.inputs + sh.parameters ≤ 11
-
-pub no-small : (sh : Shape) → sh ≡ no_shape → Small sh
-unfolding no_shape
-no-small sh e = rw e (record { connectors = omega arith; numbers = omega arith })
-
-pub output-small : (sh : Shape) → sh ≡ output_shape → Small sh
-unfolding output_shape
-output-small sh e = rw e (record { connectors = omega arith; numbers = omega arith })
-
 module _ (tag kind : Number) where
-  pub no-tag : tag.ok ≡ false → no_shape ≡ shape_by tag kind
-  unfolding shape_by says
+  pub no-tag : tag.ok ≡ false → shape_said None ≡ shape_by tag kind
+  unfolding shape_by says no_shape
   no-tag e = rw e
 
   module _ (ok : tag.ok ≡ true) where
@@ -37,17 +31,17 @@ module _ (tag kind : Number) where
     output-tag e = rw (ok, eq-eqb tag.size 0x30 e)
 
     module _ (n : tag.size ≡ 0x30 → ⊥) where
-      pub other_tag : (tag.size ≡ 0x10 → ⊥) → no_shape ≡ shape_by tag kind
-      unfolding shape_by says
+      pub other_tag : (tag.size ≡ 0x10 → ⊥) → shape_said None ≡ shape_by tag kind
+      unfolding shape_by says no_shape
       other_tag m = rw (ok, ne_eqb tag.size 0x30 n, ne_eqb tag.size 0x10 m)
 
       module _ (e : tag.size ≡ 0x10) where
-        pub no_kind : kind.ok ≡ false → no_shape ≡ shape_by tag kind
-        unfolding shape_by says
+        pub no_kind : kind.ok ≡ false → shape_said None ≡ shape_by tag kind
+        unfolding shape_by says no_shape
         no_kind q = rw (ok, ne_eqb tag.size 0x30 n, eq-eqb tag.size 0x10 e, q)
 
-        pub other-kind : kind.ok ≡ true → known kind.size ≡ false → no_shape ≡ shape_by tag kind
-        unfolding shape_by says
+        pub other-kind : kind.ok ≡ true → known kind.size ≡ false → shape_said None ≡ shape_by tag kind
+        unfolding shape_by says no_shape
         other-kind q k = rw (ok, ne_eqb tag.size 0x30 n, eq-eqb tag.size 0x10 e, q, k)
 
         pub block-kind : kind.ok ≡ true → known kind.size ≡ true → block_shape kind.size ≡ shape_by tag kind
@@ -76,3 +70,8 @@ none_said = refl
 
 pub none-second : (cells : List (List ℕ)) → length cells < 2 → (said_in 1 (nth cells 1)).ok ≡ false
 none-second cells h = rw (get_or-eq_default cells [] {n = 1} (omega arith)) none_said
+
+-- the byte of a kind, decoded
+pub not_decoded : (byte : ℕ) (r : Result Kind UnknownKind) → Decodes byte r → result_ok r ≡ None → known byte ≡ false
+not_decoded byte (Ok kind) h e = absurd (let z : ◌≡◌ {A = ℕ} 0 1 = cc in omega arith)
+not_decoded byte (Err x) h e = h

@@ -6,19 +6,22 @@ use mathlib.Core.List.{List, [], ◌∷◌, ◌++◌, map, append_assoc, map-app
 use Prim.Native.Nat.{ℕ, zero, suc, ◌+◌, ◌-◌, ◌≤◌, ◌<◌}
 use native.Mathlib.Omega.{arith}
 use lib.Dec.{eqb, ltb}
-use lib.ListN.{length, get_or, set, take, drop, length-append, length-set, length-map, get_or-append}
+use lib.ListN.{length, get_or, set, take, drop, length-drop, length-append, length-set, length-map, get_or-append}
 use lib.Seq.{get_or-set_same, get_or-set_other, get_or_at}
 use borrow.Author.Tests.{ltb-true, ltb-false, lt-ltb, eqb-true, eqb-false, eq-eqb, ne_eqb}
-use Rattle.cells.specs.declared.Cell.{Cell}
-use Rattle.cells.specs.Cells.{starts, ending, ending_size, plain_size, quoted_size, finish, closed, cell_at, undouble, content}
-use Rattle.cells.proofs.Laws.{ending_at, cell-quoted, cell-plain}
+use Rattle.cells.specs.Cells.{Cell}
+use Rattle.cells.specs.declared.Ending.{Ending}
+use Rattle.cells.specs.declared.Ending.TheVariants.{Text, Comma, Lf, Crlf, Broken}
+use Rattle.cells.specs.Cells.{ending_of, starts, none, ending, ending_size, plain_size, quoted_size, finish, closed, cell_at, undouble, content}
+use Rattle.cells.proofs.Laws.{cell-quoted, cell-plain}
 use Rattle.cells.proofs.Within.{Within, cell-within}
 use Rattle.digits.specs.Numbers.{number_of}
 use Rattle.rows.specs.Text.{Split, split_after, split_from, split_at}
 use Rattle.rows.specs.Columns.{nth}
 use Rattle.rows.proofs.Text.{split_step}
 use Rattle.rows.proofs.Said.{undouble-number}
-use Rattle.splitting.specs.Found.{content_in, text_in, Lies, Says, said_at, Finds}
+use Rattle.std.specs.Prelude.{None}
+use Rattle.splitting.specs.Found.{found_of, content_in, text_in, Lies, Says, said_at, Finds}
 
 -- ---- one cell more is held, if it is one of the first sixteen
 
@@ -156,12 +159,13 @@ text-goes-on false false true true e = omega arith
 text-goes-on false false true false e = omega arith
 text-goes-on false false false d e = omega arith
 
+none-left : (l : List ℕ) → ending l ≡ 0 → length l ≡ 0
+unfolding ending starts none
+none-left [] z = refl
+none-left (x ∷ l) z = absurd (text-goes-on (eqb x 44) (eqb x 10) (eqb x 13) (starts 10 l) z)
+
 text-ends : (s : List ℕ) (e : ℕ) → ending (drop e s) ≡ 0 → length s ≤ e
-text-ends s e z = by (ltb e (length s)) refl
-  where
-    by : (t : Bool) → ltb e (length s) ≡ t → length s ≤ e
-    by true h = absurd (text-goes-on (eqb (get_or s e 0) 44) (eqb (get_or s e 0) 10) (eqb (get_or s e 0) 13) (starts 10 (drop (e + 1) s)) (sym (ending_at s e (ltb-true e (length s) h)) ∙ z))
-    by false h = ltb-false e (length s) h
+text-ends s e z = omega (arith, none-left (drop e s) z, length-drop e s)
 
 abbrev Ends : List ℕ → Cell → Type 0
 Ends s c = c.how ≡ 0 → length s ≤ c.next
@@ -186,6 +190,21 @@ cell-ends s at c is = by (starts 34 (drop at s)) refl
     by false e =
         let n = plain_size (drop at s) in
         rw (is, ← cell-plain s at (at + n) e refl) (finish-ends s false at ((at + n) - at) (at + n))
+
+-- how the code tells an ending
+
+pub comma_is : (e : Ending) → e ≡ Comma → ending_of e ≡ 1
+comma_is e q = rw q
+
+pub broken_is : (e : Ending) → e ≡ Broken → ending_of e ≡ 30
+broken_is e q = rw q
+
+pub others_end : (e : Ending) → (e ≡ Comma → ⊥) → (e ≡ Broken → ⊥) → (ending_of e ≡ 1 → ⊥) × (ending_of e ≡ 30 → ⊥)
+others_end Text n m = (λ q. omega arith, λ q. omega arith)
+others_end Comma n m = absurd (n refl)
+others_end Lf n m = (λ q. omega arith, λ q. omega arith)
+others_end Crlf n m = (λ q. omega arith, λ q. omega arith)
+others_end Broken n m = absurd (m refl)
 
 -- ---- the walk
 
@@ -257,9 +276,8 @@ module _ (s : List ℕ) (at : ℕ) (starts sizes : List ℕ) (k cursor : ℕ) (w
           }
 
   -- a cell that is none ends it
-  pub walk-breaks : c.how ≡ 30 → (q : Bool) (next : ℕ)
-      → Finds s at (record { count = k + 1; whole = false; quoted = q; next = next }) (held starts k c.start) (held sizes k c.size)
-  walk-breaks e q next =
+  pub walk-breaks : c.how ≡ 30 → Finds s at (found_of None) (held starts k c.start) (held sizes k c.size)
+  walk-breaks e =
       record {
         whole = sym (ap (λ (x : Split). x.whole) (row_on ∙ ap (behind w.cells) (after-broken c (split_from w.fuel s c.next) e)));
         starts-long = more.starts-long;

@@ -6,10 +6,12 @@ use Prim.Native.Nat.{ℕ, zero, suc, ◌+◌, ◌-◌, ◌*◌, ◌%◌, ◌≤�
 use native.Mathlib.Numerals.{add-one}
 use native.Mathlib.Omega.{arith}
 use lib.Dec.{eqb, ltb}
-use lib.ListN.{length, get_or, set, length-append}
+use lib.ListN.{length, get_or, set, length-append, length-take, length-drop, length-set}
 use lib.Seq.{sets}
 use mir.Syntax.{w32}
 use mir.Val.{to_z}
+use lib.IntN.{ℤ}
+use Rattle.std.proofs.lemmas.Int.{to_z-of_z}
 use borrow.Author.Tests.{eq-eqb, ne_eqb}
 use Rattle.words.specs.Bytes.{number_at}
 use Rattle.digits.specs.Numbers.{signed_decimal}
@@ -39,35 +41,19 @@ wide_at inputs j =
     wide_by (ltb j 2) 1 (cond (ltb j (2 + 2 * inputs)) (cond (eqb (j % 2) 0) 1 2) 4) wide-one
     (wide_by (ltb j (2 + 2 * inputs)) (cond (eqb (j % 2) 0) 1 2) 4 (wide_by (eqb (j % 2) 0) 1 2 wide-one wide-two) wide-four)
 
-module _ (s : List ℕ) (at width r : ℕ) where
-  pub bits-one : width ≡ 1 → r ≡ get_or s at 0 → r ≡ number_at width s at
-  unfolding number_at
-  bits-one e q = rw e (omega arith)
+-- one byte is its number
+pub byte_is : (s : List ℕ) (at width : ℕ) → width ≡ 1 → to_z w32 (get_or s at 0) ≡ to_z w32 (number_at width s at)
+unfolding number_at
+byte_is s at width e = let g : number_at 1 s at ≡ get_or s at 0 = omega arith in rw (e, g)
 
-  pub bits-as : (k : ℕ) → width ≡ k → r ≡ number_at k s at → r ≡ number_at width s at
-  bits-as k e q = rw e q
+-- a comma, and the number behind it
+pub number-length : (v : ℤ) → length (number_text v) ≡ 1 + length (signed_decimal v)
+unfolding number_text
+number-length v = omega arith
 
-module _ (bits n : ℕ) (e : bits ≡ n) where
-  pub number-size-is : (r : ℕ) → (r ≡ length (signed_decimal (to_z w32 bits))) × (r ≤ 11)
-      → (1 + r ≡ length (number_text (to_z w32 n))) × (1 + r ≤ 12)
-  unfolding number_text
-  number-size-is r q =
-      let p = ap (λ (b : ℕ). length (signed_decimal (to_z w32 b))) e in
-      (omega (arith, q.0), omega (arith, q.1))
-
-  pub number-room : length (number_text (to_z w32 n)) ≡ 1 + length (signed_decimal (to_z w32 bits))
-  unfolding number_text
-  number-room =
-      let p = ap (λ (b : ℕ). length (signed_decimal (to_z w32 b))) e in
-      omega arith
-
-  pub number_put : (t t' : List ℕ) (to r : ℕ)
-      → (r ≡ to + 1 + length (signed_decimal (to_z w32 bits))) × (t' ≡ sets (set t to 44) (to + 1) (signed_decimal (to_z w32 bits)))
-      → (r ≡ to + length (number_text (to_z w32 n))) × (t' ≡ sets t to (number_text (to_z w32 n)))
-  unfolding number_text
-  number_put t t' to r q =
-      let p = ap (λ (b : ℕ). length (signed_decimal (to_z w32 b))) e in
-      (omega (arith, q.0), q.1 ∙ rw (e, add-one to))
+pub number_put : (v : ℤ) (t : List ℕ) (to : ℕ) → sets t to (number_text v) ≡ sets (set t to 44) (to + 1) (signed_decimal v)
+unfolding number_text
+number_put v t to = rw add-one
 
 -- ---- all of them
 
@@ -77,12 +63,6 @@ end-least inputs zero j at = omega arith
 end-least inputs (suc n) j at = let h = end-least inputs n (j + 1) (at + width_at inputs j) in omega arith
 
 module _ (inputs : ℕ) (s : List ℕ) (count : ℕ) where
-  pub text-start : (at : ℕ) → numbers_text inputs s (count - 0) 0 at ≡ numbers_text inputs s count 0 at
-  text-start at = let k : count - 0 ≡ count = omega arith in rw k
-
-  pub end-start : (at : ℕ) → numbers_end inputs (count - 0) 0 at ≡ numbers_end inputs count 0 at
-  end-start at = let k : count - 0 ≡ count = omega arith in rw k
-
   pub text-done : (j at : ℕ) → count ≤ j → numbers_text inputs s (count - j) j at ≡ []
   unfolding numbers_text
   text-done j at h = let k : count - j ≡ 0 = omega arith in rw k
@@ -156,26 +136,28 @@ module _ (s : List ℕ) (at : ℕ) where
   tail-some labelled e f = rw (e, eq-eqb (get_or s at 0) 0x20 f) (refl, refl)
 
   -- a label's cell behind the mark
-  module _ (size : ℕ) where
-    pub tail-size-is : (cell : ℕ) (text : List ℕ) (end : ℕ) → size ≡ number_at 2 s (at + 1)
-        → (cell ≡ length (write_cell (between s (at + 3) (at + 3 + size)))) × (cell ≤ 131074)
-        → text ≡ 44 ∷ 49 ∷ 44 ∷ write_cell (between s (at + 3) (at + 3 + number_at 2 s (at + 1))) → end ≡ at + 3 + number_at 2 s (at + 1)
-        → (3 + cell ≡ length text) × (at + 3 + size ≡ end) × (3 + cell ≤ 131077)
-    tail-size-is cell text end k q e f =
-        let l = ap length e in
-        let m = ap (λ (n : ℕ). length (write_cell (between s (at + 3) (at + 3 + n)))) k in
-        (omega (arith, q.0), omega arith, omega (arith, q.1))
+  module _ (label : List ℕ) (is : label ≡ between s (at + 3) (at + 3 + number_at 2 s (at + 1))) (long : length label ≡ number_at 2 s (at + 1)) where
+    pub tail-size-is : (labelled : Bool) → labelled ≡ true → get_or s at 0 ≡ 0x20 → (cell : ℕ) → (cell ≡ length (write_cell label)) × (cell ≤ 131074)
+        → (3 + cell ≡ length (tail_text labelled s at)) × (at + 3 + length label ≡ tail_end labelled s at) × (3 + cell ≤ 131077)
+    tail-size-is labelled l f cell q =
+        let e = tail-some labelled l f in
+        let k = ap length e.0 in
+        let m = ap (λ x. length (write_cell x)) is in
+        (omega (arith, q.0), omega (arith, e.1), omega (arith, q.1))
 
-    pub put_some : (t t₁ t₂ : List ℕ) (to mark behind : ℕ) (text : List ℕ) (end : ℕ) → size ≡ number_at 2 s (at + 1)
+    pub put_some : (labelled : Bool) → labelled ≡ true → get_or s at 0 ≡ 0x20 → (t t₁ t₂ : List ℕ) (to mark behind : ℕ)
         → (mark ≡ to + 3) × (t₁ ≡ sets t to (44 ∷ 49 ∷ 44 ∷ []))
-        → (behind ≡ mark + length (write_cell (between s (at + 3) (at + 3 + size)))) × (t₂ ≡ sets t₁ mark (write_cell (between s (at + 3) (at + 3 + size))))
-        → text ≡ 44 ∷ 49 ∷ 44 ∷ write_cell (between s (at + 3) (at + 3 + number_at 2 s (at + 1))) → end ≡ at + 3 + number_at 2 s (at + 1)
-        → (behind ≡ to + length text) × (at + 3 + size ≡ end) × (t₂ ≡ sets t to text)
-    put_some t t₁ t₂ to mark behind text end k p q e f =
-        let l = ap length e in
-        let cell = write_cell (between s (at + 3) (at + 3 + size)) in
-        let m = ap (λ (n : ℕ). length (write_cell (between s (at + 3) (at + 3 + n)))) k in (
+        → (behind ≡ mark + length (write_cell label)) × (t₂ ≡ sets t₁ mark (write_cell label))
+        → (behind ≡ to + length (tail_text labelled s at)) × (at + 3 + length label ≡ tail_end labelled s at) × (t₂ ≡ sets t to (tail_text labelled s at))
+    put_some labelled l f t t₁ t₂ to mark behind p q =
+        let e = tail-some labelled l f in
+        let k = ap length e.0 in
+        let m = ap (λ x. length (write_cell x)) is in (
           omega (arith, p.0, q.0),
-          omega arith,
-          q.1 ∙ rw (p.1, p.0, e, ← k) (sym (sets-append (44 ∷ 49 ∷ 44 ∷ []) cell t to)),
+          omega (arith, e.1),
+          q.1 ∙ rw (p.1, p.0, e.0, is) (sym (sets-append (44 ∷ 49 ∷ 44 ∷ []) (write_cell (between s (at + 3) (at + 3 + number_at 2 s (at + 1)))) t to)),
         )
+
+pub ruleset lengths = (length-take, length-drop)
+
+pub ruleset passed = (to_z-of_z, number-length, number_put, length-set)

@@ -1,15 +1,21 @@
 -- A row and the rows, as the code goes through them. Assumes nothing.
 use mathlib.Core.Path.{◌≡◌, refl, ap, sym, ◌∙◌}
-use mathlib.Core.Bool.{Bool, true, false, cond}
+use mathlib.Core.Bool.{Bool, true, false, cond, false≢true}
+use Rattle.std.specs.Prelude.{Result, Ok, Err}
+use Rattle.std.specs.Result.{IsOk}
+use Rattle.kinds.specs.declared.kind.Kind.{Kind}
+use Rattle.kinds.specs.declared.kind.UnknownKind.{UnknownKind}
+use Rattle.kinds.specs.Codes.{Decodes}
+use Rattle.kinds.specs.Kinds.{known}
 use mathlib.Core.List.{List, [], ◌∷◌, ◌++◌}
 use Prim.Native.Nat.{ℕ, zero, suc, ◌+◌, ◌-◌, ◌*◌, ◌≤◌, ◌<◌}
 use native.Mathlib.Omega.{arith}
-use lib.Dec.{eqb, ltb}
+use lib.Dec.{eqb}
 use lib.ListN.{length, get_or, length-append}
 use lib.Seq.{sets}
-use borrow.Author.Tests.{eq-eqb, ne_eqb, lt-ltb, le-ltb}
+use borrow.Author.Tests.{eq-eqb, ne_eqb}
 use Rattle.digits.specs.Numbers.{decimal, last_digits, width}
-use Rattle.rows.specs.declared.Shape.{Shape}
+use Rattle.rows.specs.Shape.{Shape}
 use Rattle.rows.specs.Columns.{block_shape, output_shape, numbers_in}
 use Rattle.rows.proofs.Laid.{sets-append}
 use Rattle.writing.specs.Walked.{numbers_text, numbers_end, tail_text, tail_end, shape_at, field_end, row_by, row_at, next_by, next_at, rows_at, Stands, Run}
@@ -34,9 +40,10 @@ module _ (s : List ℕ) (at : ℕ) where
       by true = refl
       by false = refl
 
-pub output-small : (output_shape.inputs ≤ 4) × (2 * output_shape.inputs + output_shape.parameters ≤ 11)
-unfolding output_shape
-output-small = (omega arith, omega arith)
+-- the byte of a known kind is decoded
+pub decodes : (byte : ℕ) (r : Result Kind UnknownKind) → Decodes byte r → known byte ≡ true → IsOk r
+decodes byte (Ok kind) d k = refl
+decodes byte (Err x) d k = absurd (false≢true (sym d ∙ k))
 
 pub field-least : (sh : Shape) (at : ℕ) → at + 3 ≤ field_end sh at
 unfolding field_end
@@ -159,60 +166,32 @@ module _ {s : List ℕ} {at : ℕ} {sh : Shape} {count : ℕ} (counts : Counted 
 -- ---- the rows
 
 module _ (s : List ℕ) where
-  pub rows-done : (left at : ℕ) → left ≤ 0 → rows_at s left at ≡ []
+  pub rows_done : (left at : ℕ) → left ≤ 0 → rows_at s left at ≡ []
   unfolding rows_at
-  rows-done zero at h = refl
-  rows-done (suc n) at h = absurd (omega arith)
+  rows_done zero at h = refl
+  rows_done (suc n) at h = absurd (omega arith)
 
-  module _ (left at : ℕ) (h : 0 < left) where
-    pub run-here : Run s left at → Stands s at
+  -- one entry of those that are left
+  module _ (count k at : ℕ) (h : k < count) where
+    one_less : count - k ≡ suc (count - (k + 1))
+    one_less = omega arith
+
+    pub run_here : Run s (count - k) at → Stands s at
     unfolding Run
-    run-here r = here left h r
-      where
-        here : (n : ℕ) → 0 < n → Run s n at → Stands s at
-        here zero g r = absurd (omega arith)
-        here (suc n) g r = r.0
+    run_here r = (rw one_less at r).0
 
-    pub run_on : (next : ℕ) → next ≡ next_at s at → Run s left at → Run s (left - 1) next
+    pub run_on : (next : ℕ) → next ≡ next_at s at → Run s (count - k) at → Run s (count - (k + 1)) next
     unfolding Run
-    run_on next e r = on left h r
-      where
-        on : (n : ℕ) → 0 < n → Run s n at → Run s (n - 1) next
-        on zero g r = absurd (omega arith)
-        on (suc n) g r = let k : suc n - 1 ≡ n = omega arith in rw (k, e) r.1
+    run_on next e r = rw e (rw one_less at r).1
 
-    pub rows_on : (next : ℕ) → next ≡ next_at s at → rows_at s left at ≡ row_at s at ++ rows_at s (left - 1) next
+    pub rows_on : (next : ℕ) → next ≡ next_at s at → rows_at s (count - k) at ≡ row_at s at ++ rows_at s (count - (k + 1)) next
     unfolding rows_at
-    rows_on next e = on left h
-      where
-        on : (n : ℕ) → 0 < n → rows_at s n at ≡ row_at s at ++ rows_at s (n - 1) next
-        on zero g = absurd (omega arith)
-        on (suc n) g = let k : suc n - 1 ≡ n = omega arith in rw (k, e)
+    rows_on next e = rw (one_less, e)
 
-    pub rows-length : (next : ℕ) → next ≡ next_at s at → length (rows_at s left at) ≡ length (row_at s at) + length (rows_at s (left - 1) next)
-    rows-length next e = ap length (rows_on next e) ∙ length-append (row_at s at) (rows_at s (left - 1) next)
+    pub rows_length : (next : ℕ) → next ≡ next_at s at → length (rows_at s (count - k) at) ≡ length (row_at s at) + length (rows_at s (count - (k + 1)) next)
+    rows_length next e = ap length (rows_on next e) ∙ length-append (row_at s at) (rows_at s (count - (k + 1)) next)
 
     pub put_on : (next : ℕ) → next ≡ next_at s at → (t t' : List ℕ) (to to' : ℕ) → to' ≡ to + length (row_at s at) → t' ≡ sets t to (row_at s at)
-        → sets t' to' (rows_at s (left - 1) next) ≡ sets t to (rows_at s left at)
+        → sets t' to' (rows_at s (count - (k + 1)) next) ≡ sets t to (rows_at s (count - k) at)
     put_on next e t t' to to' p q =
-        rw (q, p) (sym (ap (sets t to) (rows_on next e) ∙ sets-append (row_at s at) (rows_at s (left - 1) next) t to))
-
--- ---- the rows in the room for them
-
-pub never : {A : Type 0} → ◌≡◌ {A = Bool} true false → A
-never z = let y : ◌≡◌ {A = ℕ} 0 1 = cc in absurd (omega arith)
-
-module _ (s : List ℕ) (room free left at : ℕ) (total : ℕ) (spent : free + total ≡ room + length (rows_at s left at)) where
-  pub over-now : 0 < left → (size : ℕ) → size ≡ length (row_at s at) → free < size → true ≡ ltb room total
-  over-now h size e g =
-      let l = rows-length s left at h (next_at s at) refl in
-      sym (lt-ltb room total (omega arith))
-
-  pub free_on : 0 < left → (size next : ℕ) → size ≡ length (row_at s at) → next ≡ next_at s at → size ≤ free
-      → free - size + total ≡ room + length (rows_at s (left - 1) next)
-  free_on h size next e f g = let l = rows-length s left at h next f in omega arith
-
-  pub fits_all : left ≤ 0 → (false ≡ ltb room total) × (◌≡◌ {A = Bool} false false → free + total ≡ room)
-  fits_all h =
-      let l = ap length (rows-done s left at h) in
-      (sym (le-ltb room total (omega arith)), λ z. omega arith)
+        rw (q, p) (sym (ap (sets t to) (rows_on next e) ∙ sets-append (row_at s at) (rows_at s (count - (k + 1)) next) t to))

@@ -18,10 +18,9 @@ use borrow.Author.Tests.{eqb-true, eqb-false}
 use Rattle.words.specs.Bytes.{number_at, bytes_of}
 use Rattle.words.proofs.Sides.{sides-fit}
 use Rattle.words.proofs.Bounds.{between-sides}
-use Rattle.kinds.specs.Table.{rows}
 use Rattle.kinds.proofs.Rows.{small-kind}
 use Rattle.refusals.specs.Limited.{ours}
-use Rattle.blockfield.proofs.Laws.{known-below}
+use Rattle.kinds.specs.Kinds.{known}
 use Rattle.decoding.specs.Decoded.{Circuit}
 use Rattle.circuit.specs.Circuit.{verdict, accepted}
 use Rattle.kept.specs.Keeps.{All, Match, Bytes, Labelled, joined, field, label_bytes}
@@ -30,7 +29,7 @@ use Rattle.kept.proofs.Lists.{match-length}
 use Rattle.kept.proofs.Exactly.{accepted-exactly}
 use Rattle.digits.specs.Numbers.{decimal, signed_decimal, width, last_digits}
 use Rattle.cells.specs.Cells.{write_cell, any_special, special}
-use Rattle.rows.specs.declared.Shape.{Shape}
+use Rattle.rows.specs.Shape.{Shape}
 use Rattle.rows.specs.Columns.{below_of, above_of, packed, widths, widths_of, block_shape, output_shape, numbers_in}
 use Rattle.rows.specs.Widths.{width_at}
 use Rattle.rows.specs.Writing.{label_cells, written, text_of}
@@ -280,12 +279,12 @@ module _ (s : List ℕ) (at : ℕ) (e : Entry) (fine : Fine e) (r : List ℕ)
           let tag : get_or s at 0 ≡ 0x30 = tag-here ∙ ap (λ (x : Shape). x.tag) sh in
           shape-output s at (λ q. omega arith) ∙ sym sh
 
-  kind-known : get_or s at 0 ≡ 0x10 → get_or s (at + 3) 0 < rows
+  kind-known : get_or s at 0 ≡ 0x10 → known (get_or s (at + 3) 0) ≡ true
   unfolding block_shape output_shape
   kind-known q = by fine.shaped
     where
-      by : Shaped e → get_or s (at + 3) 0 < rows
-      by (block kind k sh first) = rw (kind-here kind first) (known-below kind k)
+      by : Shaped e → known (get_or s (at + 3) 0) ≡ true
+      by (block kind k sh first) = rw (kind-here kind first) k
       by (output sh) =
           let tag : get_or s at 0 ≡ 0x30 = tag-here ∙ ap (λ (x : Shape). x.tag) sh in
           absurd (omega arith)

@@ -1,13 +1,13 @@
 -- The row of the entry at a place of the circuit's bytes, as the code goes through it. Not part of what a reader has to believe.
-use Rattle.std.specs.Prelude.{ℕ, zero, suc, ◌+◌, ◌-◌, ◌≤◌, ◌<◌, ◌≡◌, Bool, cond, List, [], ◌∷◌, ◌++◌, eqb, length, get_or, take, drop, ℤ}
+use Rattle.std.specs.Prelude.{ℕ, zero, suc, ◌+◌, ◌-◌, ◌≤◌, ◌≡◌, Bool, true, cond, List, [], ◌∷◌, ◌++◌, eqb, length, get_or, take, drop, ℤ}
 use Rattle.std.proofs.Math.Option.{Option, none, some}
 use Rattle.std.specs.Int.{w32}
 use Rattle.std.proofs.Common.{to_z}
 use Rattle.words.specs.Bytes.{number_at}
-use Rattle.kinds.specs.Table.{rows}
+use Rattle.kinds.specs.Kinds.{known}
 use Rattle.digits.specs.Numbers.{decimal, signed_decimal}
 use Rattle.cells.specs.Cells.{write_cell}
-use Rattle.rows.specs.declared.Shape.{Shape}
+use Rattle.rows.specs.Shape.{Shape}
 use Rattle.rows.specs.Columns.{block_shape, output_shape, numbers_in}
 use Rattle.rows.specs.Widths.{width_at}
 
@@ -93,7 +93,7 @@ rows_at s (suc n) at = row_at s at ++ rows_at s n (next_at s at)
 
 -- an entry stands at a place whole, and a byte stands behind it
 pub record Stands (s : List ℕ) (at : ℕ) : Type 0 where
-  pub kind : get_or s at 0 ≡ 0x10 → get_or s (at + 3) 0 < rows
+  pub kind : get_or s at 0 ≡ 0x10 → known (get_or s (at + 3) 0) ≡ true
   pub field : field_end (shape_at s at) at + 3 ≤ length s
   pub next : next_at s at + 3 ≤ length s
 

@@ -1,38 +1,27 @@
 -- What is free and what is left to put. Assumes nothing.
-use mathlib.Core.Path.{refl}
-use native.Mathlib.Omega.{arith}
-use Rattle.writing.proofs.Row.{run-here, run_on, over-now, free_on, fits_all, never}
+use Rattle.std.proofs.Common.{◌≡◌, ◌-◌, ◌≤◌, None, refl, ap, arith, rules, length}
+use Rattle.writing.specs.Walked.{next_at}
+use Rattle.writing.proofs.Row.{run_here, run_on, rows_length, rows_done}
 use Rattle.writing.proofs.measure.Goals as goal
 
-pub loop-left-init : goal.loop-left-init
-loop-left-init c = (c.requires.1, refl)
-
-pub overflow_sub-left : goal.overflow_sub-left
-overflow_sub-left c = omega arith
-
 pub row_size-row-requires : goal.row_size-row-requires
-row_size-row-requires c =
-    let loop = c.loop-left in
-    (c.requires.0, run-here c.args.bytes.now loop.left loop.at (omega arith) loop.invariant.0)
+row_size-row-requires c = run_here _ c.args.count c.loop.counter _ c.loop-test.true c.loop.invariant.0
 
-pub returns-then-free-row : goal.returns-then-free-row
-returns-then-free-row c =
-    let loop = c.loop-left in
-    let row-size = c.row_size-row in
-    (over-now c.args.bytes.now c.args.room loop.free loop.left loop.at _ loop.invariant.1 (omega arith) row-size.result.to row-size.ensures.0 (omega arith), λ z. never z)
+pub returns-in_err-free : goal.returns-in_err-free
+returns-in_err-free c =
+    let l = rows_length c.args.bytes.now c.args.count c.loop.counter c.loop.at c.loop-test.true (next_at c.args.bytes.now c.loop.at) refl in
+    let none : c.checked_sub.result ≡ None = search rules in
+    let short = rw none at c.checked_sub.ensures in
+    rw c.from_residual.ensures (omega (arith, l, c.row_size-row.ensures.0, c.loop.invariant.1, short))
 
-pub loop-left-smaller : goal.loop-left-smaller
-loop-left-smaller c = omega arith
-
-pub loop-left-preserved : goal.loop-left-preserved
-loop-left-preserved c =
-    let loop = c.loop-left in
-    let row-size = c.row_size-row in (
-      run_on c.args.bytes.now loop.left loop.at (omega arith) row-size.result.at row-size.ensures.1 loop.invariant.0,
-      free_on c.args.bytes.now c.args.room loop.free loop.left loop.at _ loop.invariant.1 (omega arith) row-size.result.to row-size.result.at row-size.ensures.0 row-size.ensures.1 (omega arith),
+pub loop-preserved : goal.loop-preserved
+loop-preserved c =
+    let l = rows_length c.args.bytes.now c.args.count c.loop.counter c.loop.at c.loop-test.true _ c.row_size-row.ensures.1 in (
+      run_on _ c.args.count c.loop.counter _ c.loop-test.true _ c.row_size-row.ensures.1 c.loop.invariant.0,
+      omega (arith, l, c.row_size-row.ensures.0, c.loop.invariant.1, c.in_ok-free.ensures),
     )
 
 pub returns : goal.returns
 returns c =
-    let loop = c.loop-left in
-    fits_all c.args.bytes.now c.args.room loop.free loop.left loop.at _ loop.invariant.1 (omega arith)
+    let none : c.args.count - c.loop.counter ≤ 0 = omega arith in
+    omega (arith, ap length (rows_done c.args.bytes.now _ c.loop.at none), c.loop.invariant.1)

@@ -1,33 +1,26 @@
 -- By the tag, and a block's kind. Assumes nothing.
-use mathlib.Core.Path.{sym, ◌∙◌, ap}
-use native.Mathlib.Omega.{arith}
+use Rattle.std.proofs.Common.{ap, sym, ◌∙◌, arith}
 use Rattle.rows.specs.Columns.{block_shape}
 use Rattle.writing.specs.Walked.{shape_at}
-use Rattle.writing.proofs.Row.{field-least, shape-block, shape-output, output-small}
+use Rattle.writing.proofs.Row.{field-least, shape-block, shape-output, decodes}
 use Rattle.writing.proofs.shape_at.Goals as goal
 
-pub byte_at-requires : goal.byte_at-requires
-byte_at-requires c =
-    let f = field-least (shape_at c.args.bytes.now c.args.at) c.args.at in omega (arith, c.requires.1.field)
+pub bounds-bytes-at : goal.bounds-bytes-at
+bounds-bytes-at c = omega (arith, field-least (shape_at c.args.bytes.now c.args.at) c.args.at, c.requires.field)
+
+pub bounds-bytes-at-2 : goal.bounds-bytes-at-2
+bounds-bytes-at-2 c = omega (arith, field-least (shape_at c.args.bytes.now c.args.at) c.args.at, c.requires.field)
 
 pub overflow_add-at : goal.overflow_add-at
-overflow_add-at c =
-    let f = field-least (shape_at c.args.bytes.now c.args.at) c.args.at in omega (arith, c.requires.1.field)
+overflow_add-at c = omega (arith, field-least (shape_at c.args.bytes.now c.args.at) c.args.at, c.requires.field)
 
-pub byte_at-requires-then-byte_at-eq16 : goal.byte_at-requires-then-byte_at-eq16
-byte_at-requires-then-byte_at-eq16 c =
-    let f = field-least (shape_at c.args.bytes.now c.args.at) c.args.at in omega (arith, c.requires.1.field)
+pub returns-then-bytes-at-ne16 : goal.returns-then-bytes-at-ne16
+returns-then-bytes-at-ne16 c = c.output_shape.ensures ∙ sym (shape-output c.args.bytes.now c.args.at c.if-bytes-at-ne16.true)
 
-pub block_shape-requires : goal.block_shape-requires
-block_shape-requires c =
-    record { table_is = c.requires.0; has-row = rw c.byte_at-then-byte_at-eq16.ensures.0 (c.requires.1.kind (sym c.byte_at.ensures.0 ∙ c.if-byte_at-eq16.true)) }
-
-pub returns-then-byte_at-eq16 : goal.returns-then-byte_at-eq16
-returns-then-byte_at-eq16 c =
-    let q = c.block_shape.ensures in
-    (q.0 ∙ ap block_shape c.byte_at-then-byte_at-eq16.ensures.0 ∙ sym (shape-block c.args.bytes.now c.args.at (sym c.byte_at.ensures.0 ∙ c.if-byte_at-eq16.true)), q.1, q.2)
+pub unwrap-requires : goal.unwrap-requires
+unwrap-requires c = decodes _ _ c.try_from.ensures (c.requires.kind c.if-bytes-at-ne16.false)
 
 pub returns : goal.returns
 returns c =
-    let q = c.output_shape.ensures in
-    (q ∙ sym (shape-output c.args.bytes.now c.args.at (λ e. c.if-byte_at-eq16.false (c.byte_at.ensures.0 ∙ e))), rw q output-small.0, rw q output-small.1)
+    let decoded = rw c.unwrap.ensures at c.try_from.ensures in
+    c.block_shape.ensures.0 ∙ ap block_shape decoded.0 ∙ sym (shape-block c.args.bytes.now c.args.at c.if-bytes-at-ne16.false)
