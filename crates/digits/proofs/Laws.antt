@@ -24,15 +24,6 @@ digit-least x e = by (leb 48 x) refl
     by true f = leb-true 48 x f
     by false f = let z : ◌≡◌ {A = Bool} false true = rw f at e in let y : ◌≡◌ {A = ℕ} 0 1 = cc in absurd (omega arith)
 
--- the bytes from a place up to an end: there are none, or the first and the others
-pub part_none : (s : List ℕ) (i to : ℕ) → to ≤ i → take (to - i) (drop i s) ≡ []
-part_none s i to h = let k : to - i ≡ 0 = omega arith in rw k
-
-pub part-cons : (s : List ℕ) (i to : ℕ) → i < to → to ≤ length s → take (to - i) (drop i s) ≡ get_or s i 0 ∷ take (to - (i + 1)) (drop (i + 1) s)
-part-cons s i to h g =
-    let k : to - i ≡ suc (to - (i + 1)) = omega arith in
-    let f : i < length s = omega arith in rw (k, drop-cons s i 0, add-one i)
-
 value_grows : (a : ℕ) (l : List ℕ) → a ≤ value_from a l
 unfolding value_from
 value_grows a [] = omega arith

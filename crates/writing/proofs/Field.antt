@@ -63,12 +63,6 @@ end-least inputs zero j at = omega arith
 end-least inputs (suc n) j at = let h = end-least inputs n (j + 1) (at + width_at inputs j) in omega arith
 
 module _ (inputs : ℕ) (s : List ℕ) (count : ℕ) where
-  pub text-start : (at : ℕ) → numbers_text inputs s (count - 0) 0 at ≡ numbers_text inputs s count 0 at
-  text-start at = let k : count - 0 ≡ count = omega arith in rw k
-
-  pub end-start : (at : ℕ) → numbers_end inputs (count - 0) 0 at ≡ numbers_end inputs count 0 at
-  end-start at = let k : count - 0 ≡ count = omega arith in rw k
-
   pub text-done : (j at : ℕ) → count ≤ j → numbers_text inputs s (count - j) j at ≡ []
   unfolding numbers_text
   text-done j at h = let k : count - j ≡ 0 = omega arith in rw k

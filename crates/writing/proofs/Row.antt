@@ -10,10 +10,10 @@ use Rattle.kinds.specs.Kinds.{known}
 use mathlib.Core.List.{List, [], ◌∷◌, ◌++◌}
 use Prim.Native.Nat.{ℕ, zero, suc, ◌+◌, ◌-◌, ◌*◌, ◌≤◌, ◌<◌}
 use native.Mathlib.Omega.{arith}
-use lib.Dec.{eqb, ltb}
+use lib.Dec.{eqb}
 use lib.ListN.{length, get_or, length-append}
 use lib.Seq.{sets}
-use borrow.Author.Tests.{eq-eqb, ne_eqb, lt-ltb, le-ltb}
+use borrow.Author.Tests.{eq-eqb, ne_eqb}
 use Rattle.digits.specs.Numbers.{decimal, last_digits, width}
 use Rattle.rows.specs.Shape.{Shape}
 use Rattle.rows.specs.Columns.{block_shape, output_shape, numbers_in}

@@ -1,5 +1,5 @@
 -- What is left to put, from here on, is what was to be put. Assumes nothing.
-use Rattle.std.proofs.Common.{◌-◌, ◌≤◌, refl, sym, ap, ◌∙◌, arith, length}
+use Rattle.std.proofs.Common.{◌-◌, ◌≤◌, refl, sym, ap, ◌∙◌, arith}
 use lib.Seq.{sets}
 use Rattle.writing.specs.Walked.{next_at}
 use Rattle.writing.proofs.Row.{run_here, run_on, rows_length, rows_done, put_on}

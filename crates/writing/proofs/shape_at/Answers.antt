@@ -1,5 +1,5 @@
 -- By the tag, and a block's kind. Assumes nothing.
-use Rattle.std.proofs.Common.{◌≡◌, refl, ap, sym, ◌∙◌, arith, rules}
+use Rattle.std.proofs.Common.{ap, sym, ◌∙◌, arith}
 use Rattle.rows.specs.Columns.{block_shape}
 use Rattle.writing.specs.Walked.{shape_at}
 use Rattle.writing.proofs.Row.{field-least, shape-block, shape-output, decodes}

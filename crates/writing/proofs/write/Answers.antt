@@ -1,5 +1,5 @@
 -- The verdict on the circuit, then the room for its rows, then the rows. Assumes nothing.
-use Rattle.std.proofs.Common.{◌≡◌, Result, Ok, Err, Option, Some, None, refl, ap, sym, ◌∙◌, arith, rules, length}
+use Rattle.std.proofs.Common.{◌≡◌, Ok, Err, Some, None, arith, rules}
 use Rattle.refusals.specs.declared.Refusal.TheVariants.{NoRoom}
 use Rattle.writing.proofs.Answered.{refused-answer, Rows, rows_run, over-answer, written-answer}
 use Rattle.writing.proofs.write.Goals as goal

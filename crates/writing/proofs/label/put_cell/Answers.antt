@@ -1,5 +1,5 @@
 -- The cell's bytes, between quotes where one of them wants them. Assumes nothing.
-use Rattle.std.proofs.Common.{length, ap, sym, ◌∙◌, arith, length-set}
+use Rattle.std.proofs.Common.{sym, ◌∙◌, arith, length-set}
 use Rattle.writing.proofs.Cell.{quoted_length, plain_double, put_quoted}
 use Rattle.writing.proofs.label.put_cell.Goals as goal
 

@@ -1,5 +1,5 @@
 -- By whether a label may follow, and whether one does. Assumes nothing.
-use Rattle.std.proofs.Common.{length, ap, sym, ◌∙◌, arith, ◌+◌}
+use Rattle.std.proofs.Common.{length, ap, sym, ◌∙◌, arith}
 use lib.Seq.{sets}
 use Rattle.cells.specs.Cells.{write_cell}
 use Rattle.writing.proofs.Field.{tail_none, tail-bare, tail-some, put_some}

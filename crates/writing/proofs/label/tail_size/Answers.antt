@@ -1,5 +1,5 @@
 -- By whether a label may follow, and whether one does. Assumes nothing.
-use Rattle.std.proofs.Common.{length, ap, sym, ◌∙◌, arith, ◌+◌}
+use Rattle.std.proofs.Common.{length, ap, sym, arith}
 use Rattle.writing.proofs.Field.{tail_none, tail-bare, tail-some, tail-size-is}
 use Rattle.writing.proofs.label.tail_size.Goals as goal
 

@@ -1,5 +1,5 @@
 -- By the tests on tag and kind. Assumes nothing.
-use Rattle.std.proofs.Common.{◌≡◌, Result, Ok, Some, None, refl, ap, sym, ◌∙◌, arith, rules}
+use Rattle.std.proofs.Common.{◌≡◌, Ok, None, refl, ap, ◌∙◌, arith, rules}
 use Rattle.std.specs.Result.{result_ok}
 use Rattle.rows.specs.Columns.{said_in, nth, block_shape}
 use Rattle.splitting.proofs.Numbers.{said-byte}
