@@ -2,11 +2,8 @@
 use native.Mathlib.Omega.{arith}
 use mathlib.Core.Path.{refl}
 use Rattle.fields.specs.Codes.{class_code}
-use Rattle.destinations.proofs.Filled.{number-from, slot-below}
+use Rattle.destinations.proofs.Filled.{slot-below}
 use Rattle.destinations.proofs.slot_of.Goals as goal
-
-pub overflow_sub-result : goal.overflow_sub-result
-overflow_sub-result c = number-from (class_code c.args.class) c.args.number c.requires
 
 pub overflow_add-result : goal.overflow_add-result
 overflow_add-result c = omega (arith, c.base_of.ensures, slot-below (class_code c.args.class) c.args.number c.requires)
