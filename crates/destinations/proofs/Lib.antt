@@ -1,3 +1,4 @@
 pub mod Filled
 pub mod Published
 pub mod Decided
+pub mod Bits
