@@ -1,15 +1,16 @@
 -- Why the scans answer what the definitions say: one law for each step of a scan, on the bytes from a place on. Assumes nothing.
-use mathlib.Core.Path.{◌≡◌, refl, sym, ◌∙◌}
+use mathlib.Core.Path.{ap, ◌≡◌, refl, sym, ◌∙◌}
 use mathlib.Core.Bool.{Bool, true, false, cond, not, true≢false}
 use mathlib.Core.List.{List, [], ◌∷◌}
 use Prim.Native.Nat.{ℕ, zero, suc, ◌+◌, ◌-◌, ◌≤◌, ◌<◌}
 use native.Mathlib.Numerals.{add-one}
 use native.Mathlib.Omega.{arith}
-use lib.ListN.{length, get_or, drop, length-drop, drop_of_length-le}
+use lib.ListN.{take, length, get_or, drop, length-drop, drop_of_length-le}
+use Rattle.std.proofs.lemmas.List.{take_rest}
 use lib.Seq.{drop-cons, drop-drop}
 use lib.Dec.{eqb}
-use borrow.Author.Tests.{eqb-true, ne_eqb}
-use Rattle.cells.specs.Cells.{starts, none, ending, ending_size, stops, plain_size, quoted_size, finish, closed, cell_at}
+use borrow.Author.Tests.{eqb-true, eq-eqb, ne_eqb}
+use Rattle.cells.specs.Cells.{Cell, starts, none, ending, ending_size, stops, plain_size, quoted_size, finish, closed, cell_at}
 
 -- where a byte stands, the list goes on
 pub starts-in : (s : List ℕ) (i b : ℕ) → starts b (drop i s) ≡ true → i < length s
@@ -75,6 +76,14 @@ ending_size-fits [] = omega arith
 ending_size-fits (x ∷ []) = ending_size-1 (eqb x 44) (eqb x 10) (eqb x 13)
 ending_size-fits (x ∷ y ∷ l) = let h = ending_size-2 (ending (x ∷ y ∷ l)) in omega arith
 
+above-goes : (x : ℕ) (l : List ℕ) → 44 < x → stops (x ∷ l) ≡ false
+unfolding stops ending starts none
+above-goes x l g = rw (ne_eqb x 34 (λ q. omega arith), ne_eqb x 44 (λ q. omega arith), ne_eqb x 10 (λ q. omega arith), ne_eqb x 13 (λ q. omega arith))
+
+comma-stops : (l : List ℕ) → stops (44 ∷ l) ≡ true
+unfolding stops ending starts
+comma-stops l = refl
+
 -- ## One step of a scan
 
 module _ (s : List ℕ) (i : ℕ) where
@@ -85,7 +94,14 @@ module _ (s : List ℕ) (i : ℕ) where
   unfolding plain_size
   plain-past h = rw (drop_of_length-le s h)
 
-pub ruleset plain_steps = (plain-stop, plain-next, plain-past)
+-- a byte above the comma stops no plain cell
+pub plain_above : (s : List ℕ) (i : ℕ) → i < length s → 44 < get_or s i 0 → plain_size (drop i s) ≡ 1 + plain_size (drop (i + 1) s)
+plain_above s i h g = plain-next s i h (rw (drop-cons s i 0) (above-goes (get_or s i 0) (drop (suc i) s) g))
+
+pub plain_comma : (s : List ℕ) (i : ℕ) → i < length s → get_or s i 0 ≡ 44 → plain_size (drop i s) ≡ 0
+plain_comma s i h e = plain-stop (drop i s) (rw (drop-cons s i 0, e) (comma-stops (drop (suc i) s)))
+
+pub ruleset plain_steps = (plain-stop, plain-next, plain-past, plain_above, plain_comma)
 
 text-first : (l : List ℕ) → 1 ≤ length l → (get_or l 0 0 ≡ 34 → ⊥) → quoted_size l ≡ 1 + quoted_size (drop 1 l)
 text-first [] h n = absurd (omega arith)
@@ -146,6 +162,50 @@ pub ruleset ending_fits = (ending_size-fits, length-drop)
 
 -- ## A whole cell
 
+starts_quote : (l : List ℕ) → 1 ≤ length l → get_or l 0 0 ≡ 34 → starts 34 l ≡ true
+unfolding starts
+starts_quote [] h e = absurd (omega arith)
+starts_quote (x ∷ l) h e = eq-eqb x 34 e
+
+starts_other : (l : List ℕ) → (get_or l 0 0 ≡ 34 → ⊥) → starts 34 l ≡ false
+unfolding starts
+starts_other [] n = refl
+starts_other (x ∷ l) n = ne_eqb x 34 n
+
+starts_none : (l : List ℕ) → length l < 1 → starts 34 l ≡ false
+unfolding starts
+starts_none [] h = refl
+starts_none (x ∷ l) h = absurd (omega arith)
+
+-- what is left of a part from a place on
+pub rest_from : (text rest : List ℕ) (start size : ℕ) → rest ≡ drop start text → take (length rest - size) (drop size rest) ≡ drop (start + size) text
+rest_from text rest start size e = take_rest rest size ∙ ap (drop size) e ∙ drop-drop size start text
+
+-- a quoted cell by the byte behind its text
+module _ (text rest : List ℕ) (start size : ℕ) (is : rest ≡ drop start text) (sized : size ≡ quoted_size rest) where
+  abbrev behind : List ℕ
+  behind = take (length rest - size) (drop size rest)
+
+  found_by : (b : Bool) → starts 34 behind ≡ b → starts 34 (drop (start + quoted_size (drop start text)) text) ≡ b
+  found_by b e = rw (← is, ← sized, ← rest_from text rest start size is) e
+
+  pub closed_yes : 1 ≤ length behind → get_or behind 0 0 ≡ 34 → finish text true start size (start + size + 1) ≡ closed text start (quoted_size (drop start text))
+  unfolding closed
+  closed_yes h e = let t = found_by true (starts_quote behind h e) in rw t (rw (← is, ← sized) refl)
+
+  closed_by : starts 34 behind ≡ false
+      → ◌≡◌ {A = Cell} (record { start = start; size = size; quoted = true; how = 30; next = start + size }) (closed text start (quoted_size (drop start text)))
+  unfolding closed
+  closed_by e = let t = found_by false e in rw t (rw (← is, ← sized) refl)
+
+  pub closed_other : (get_or behind 0 0 ≡ 34 → ⊥)
+      → ◌≡◌ {A = Cell} (record { start = start; size = size; quoted = true; how = 30; next = start + size }) (closed text start (quoted_size (drop start text)))
+  closed_other n = closed_by (starts_other behind n)
+
+  pub closed_none : length behind < 1
+      → ◌≡◌ {A = Cell} (record { start = start; size = size; quoted = true; how = 30; next = start + size }) (closed text start (quoted_size (drop start text)))
+  closed_none h = closed_by (starts_none behind h)
+
 pub cell-quoted : (s : List ℕ) (at : ℕ) → starts 34 (drop at s) ≡ true → closed s (at + 1) (quoted_size (drop (at + 1) s)) ≡ cell_at s at
 unfolding cell_at
 cell-quoted s at t = rw t
@@ -153,3 +213,18 @@ cell-quoted s at t = rw t
 pub cell-plain : (s : List ℕ) (at e : ℕ) → starts 34 (drop at s) ≡ false → e ≡ at + plain_size (drop at s) → finish s false at (e - at) e ≡ cell_at s at
 unfolding cell_at
 cell-plain s at e t is = let k : e - at ≡ plain_size (drop at s) = omega arith in rw (t, k, is)
+
+-- a cell by its first byte
+module _ (text rest : List ℕ) (at : ℕ) (is : rest ≡ drop at text) where
+  pub quoted_found : 1 ≤ length rest → get_or rest 0 0 ≡ 34 → closed text (at + 1) (quoted_size (drop (at + 1) text)) ≡ cell_at text at
+  quoted_found h e = cell-quoted text at (rw (← is) (starts_quote rest h e))
+
+  plain_by : (size : ℕ) → size ≡ plain_size rest → starts 34 rest ≡ false → finish text false at size (at + size) ≡ cell_at text at
+  unfolding cell_at
+  plain_by size sized e = let t : starts 34 (drop at text) ≡ false = rw (← is) e in rw t (rw (← is, ← sized) refl)
+
+  pub plain_found : (size : ℕ) → size ≡ plain_size rest → (get_or rest 0 0 ≡ 34 → ⊥) → finish text false at size (at + size) ≡ cell_at text at
+  plain_found size sized n = plain_by size sized (starts_other rest n)
+
+  pub none_found : (size : ℕ) → size ≡ plain_size rest → length rest < 1 → finish text false at size (at + size) ≡ cell_at text at
+  none_found size sized h = plain_by size sized (starts_none rest h)

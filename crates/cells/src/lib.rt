@@ -1,7 +1,7 @@
 // Cells of a text by RFC 4180, handed out as start and length. Knows nothing of numbers or circuits.
 #![tactic(auto)]
 
-ghost use Rattle.std.specs.Prelude.{◌≡◌, ◌+◌, drop};
+ghost use Rattle.std.specs.Prelude.{◌≡◌, ℕ, List, ◌+◌, ◌≤◌, ◌<◌, ◌^◌, length, drop};
 ghost use Rattle.cells.specs.Cells.{ending_of, cell_of, ending, ending_size, stops, plain_size, quoted_size, finish, closed, cell_at};
 
 // How a cell ends: by the end of the text, a comma, LF, CRLF; or not at all.
@@ -67,13 +67,13 @@ fn stops(rest: &[u8]) -> bool
     matches!(rest, [] | [b'"' | b',' | b'\n', ..] | [b'\r', b'\n', ..])
 }
 
-// How many bytes of text a plain cell has that these bytes begin with.
+// How many bytes of text a plain cell has that these bytes begin with. Digits and letters stand above the comma, and stop nothing.
 #[tactic(auto, using(crate::proofs::Laws::plain_steps, std::proofs::lemmas::List::take_rest))]
 fn plain_size(rest: &[u8]) -> usize
-    ensures { result ≡ plain_size rest.now }
+    ensures { (result ≡ plain_size rest.now) × (result ≤ length rest.now) }
 {
-    for i in 0..rest.len() {
-        if stops(&rest[i..]) {
+    for (i, b) in rest.iter().enumerate() {
+        if *b == b',' || *b < b',' && stops(&rest[i..]) {
             return i;
         }
     }
@@ -83,7 +83,7 @@ fn plain_size(rest: &[u8]) -> usize
 // How many bytes of text a quoted cell has that these bytes begin with, behind its opening quote.
 #[tactic(auto, using(crate::proofs::Laws::quoted_steps, std::proofs::lemmas::List::take_rest))]
 fn quoted_size(rest: &[u8]) -> usize
-    ensures { result ≡ quoted_size rest.now }
+    ensures { (result ≡ quoted_size rest.now) × (result ≤ length rest.now) }
 {
     let mut size = 0;
     loop {
@@ -95,12 +95,13 @@ fn quoted_size(rest: &[u8]) -> usize
     }
 }
 
-// A cell whose text ends at e, with its ending.
+// A cell whose text ends at e, before these bytes, with its ending.
 #[tactic(auto, unfolding(crate::specs::Cells::finish), using(crate::proofs::Laws::ending_fits))]
-fn finished(text: &[u8], quoted: bool, start: usize, size: usize, e: usize) -> Cell
-    ensures { cell_of result ≡ finish text.now quoted start size e }
+fn finished(behind: &[u8], quoted: bool, start: usize, size: usize, e: usize) -> Cell
+    requires { e + length behind.now < 2 ^ 64 }
+    ensures { (text : List ℕ) → behind.now ≡ drop e text → cell_of result ≡ finish text quoted start size e }
 {
-    let how = ending_before(bytes_from(text, e));
+    let how = ending_before(behind);
     Cell {
         start,
         size,
@@ -110,15 +111,15 @@ fn finished(text: &[u8], quoted: bool, start: usize, size: usize, e: usize) -> C
     }
 }
 
-// The quoted cell whose text begins at `start`.
-#[tactic(auto, unfolding(crate::specs::Cells::closed, crate::specs::Cells::starts), using(crate::proofs::Laws::sizes_fit))]
-fn quoted_at(text: &[u8], start: usize) -> Cell
-    ensures { cell_of result ≡ closed text.now start (quoted_size (drop start text.now)) }
+// The quoted cell whose text begins at `start`, with these bytes.
+fn quoted_cell(rest: &[u8], start: usize) -> Cell
+    requires { start + length rest.now < 2 ^ 64 }
+    ensures { (text : List ℕ) → rest.now ≡ drop start text → cell_of result ≡ closed text start (quoted_size (drop start text)) }
 {
-    let size = quoted_size(bytes_from(text, start));
+    let size = quoted_size(rest);
     let e = start + size;
-    match bytes_from(text, e) {
-        [b'"', ..] => finished(text, true, start, size, e + 1),
+    match &rest[size..] {
+        [b'"', behind @ ..] => finished(behind, true, start, size, e + 1),
         _ => Cell {
             start,
             size,
@@ -130,16 +131,15 @@ fn quoted_at(text: &[u8], start: usize) -> Cell
 }
 
 // The cell at a position.
-#[tactic(auto, unfolding(crate::specs::Cells::cell_at, crate::specs::Cells::starts), using(crate::proofs::Laws::sizes_fit))]
 fn cell_at(text: &[u8], at: usize) -> Cell
     ensures { cell_of result ≡ cell_at text.now at }
 {
     let rest = bytes_from(text, at);
     match rest {
-        [b'"', ..] => quoted_at(text, at + 1),
+        [b'"', rest @ ..] => quoted_cell(rest, at + 1),
         _ => {
             let size = plain_size(rest);
-            finished(text, false, at, size, at + size)
+            finished(&rest[size..], false, at, size, at + size)
         }
     }
 }
