@@ -17,7 +17,7 @@ use connectors::{Reach, Spot};
 use kinds::Kind;
 use refusals::{Field, Refusal, Stage};
 
-// Whether a block cannot have a content of this length. That of an unknown kind is not judged.
+// Whether a block cannot have a content of this length. That of an unknown kind is not judged, and the length is judged before the kind: so by the byte.
 fn wrong_length(kind: u8, size: usize) -> bool
     ensures { result ≡ (known kind && not (eqb size (content_length (kind_of kind)))) }
 {
@@ -66,7 +66,7 @@ fn parameter_at(bytes: &[u8], from: usize, count: usize, j: usize) -> i32
     }
 }
 
-// The parameters of a block, 0 where it has none.
+// The parameters of a block, 0 where it has none. Four calls: the clause of `array::from_fn` speaks of runs of its closure, and is no plainer.
 pub fn parameters_at(bytes: &[u8], at: usize, kind: Kind) -> [i32; 4]
     requires { (at + 3) + content_length (kind_of (byte_of kind)) ≤ length bytes.now }
     ensures { result ≡ four_of (parameters_at bytes.now at (kind_of (byte_of kind))) }

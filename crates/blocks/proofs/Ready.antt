@@ -15,36 +15,39 @@ use Rattle.kinds.proofs.Allowed.{param_in}
 use Rattle.blocks.specs.declared.Prepared.{Prepared}
 use Rattle.blocks.specs.Fit.{Fit, Scaling}
 
-module _ (k : Kind) (p : Prepared) (f : Fit (byte_of k) p) where
+module _ {kind : ℕ} {p : Prepared} (f : Fit kind p) where
   -- a parameter in the range that its kind's list of parameters has
-  param-at : (rs : List Range) → (kind_of (byte_of k)).parameters ≡ rs → (j : ℕ) → j < 3 → Between (get_or rs j (pos 0 to pos 0)).least (get_or rs j (pos 0 to pos 0)).greatest (parameter p.params j)
+  param-at : (rs : List Range) → (kind_of kind).parameters ≡ rs → (j : ℕ) → j < 3 → Between (get_or rs j (pos 0 to pos 0)).least (get_or rs j (pos 0 to pos 0)).greatest (parameter p.params j)
   param-at rs e j h = rw e at (f.params_are j (omega arith) (λ is. h))
 
-  -- A and B come first
-  scaling : (v : Kind) (rs : List Range) → (kind_of (byte_of v)).parameters ≡ gain ∷ offset ∷ rs → k ≡ v → Scaling p
-  scaling v rs e is =
-      record { gain-is = param-at (gain ∷ offset ∷ rs) (rw is e) 0 (omega arith); offset-is = param-at (gain ∷ offset ∷ rs) (rw is e) 1 (omega arith) }
+  -- kinds 13, 14, 16 and 19: A and B come first
+  pub scaling : (rs : List Range) → (kind_of kind).parameters ≡ gain ∷ offset ∷ rs → Scaling p
+  scaling rs e = record { gain-is = param-at _ e 0 (omega arith); offset-is = param-at _ e 1 (omega arith) }
+
+module _ (k : Kind) (p : Prepared) (f : Fit (byte_of k) p) where
+  scaled_by : (v : Kind) (rs : List Range) → (kind_of (byte_of v)).parameters ≡ gain ∷ offset ∷ rs → k ≡ v → Scaling p
+  scaled_by v rs e is = scaling f rs (rw is e)
 
   pub by_threshold : k ≡ ThresholdTrigger → Scaling p
   unfolding kind_of kinds scaled
-  by_threshold is = scaling ThresholdTrigger _ refl is
+  by_threshold is = scaled_by ThresholdTrigger _ refl is
 
   pub by_comparator : k ≡ Comparator → Scaling p
   unfolding kind_of kinds scaled
-  by_comparator is = scaling Comparator _ refl is
+  by_comparator is = scaled_by Comparator _ refl is
 
   pub by_differential : k ≡ DifferentialTrigger → Scaling p
   unfolding kind_of kinds scaled
-  by_differential is = scaling DifferentialTrigger _ refl is
+  by_differential is = scaled_by DifferentialTrigger _ refl is
 
   pub by_amplifier : k ≡ Amplifier → Scaling p
   unfolding kind_of kinds
-  by_amplifier is = scaling Amplifier _ refl is
+  by_amplifier is = scaled_by Amplifier _ refl is
 
   -- the bit of a shift register
   pub by_register : k ≡ ShiftRegister → Between (pos 1) (pos 8) (parameter p.params 1)
   unfolding kind_of kinds indexed
-  by_register is = param-at indexed (rw is refl) 1 (omega arith)
+  by_register is = param-at f indexed (rw is refl) 1 (omega arith)
 
 -- On and Δ of a differential trigger
 module _ (k : Kind) (p : List ℤ) (a : allowed (byte_of k) p ≡ true) (is : k ≡ DifferentialTrigger) where

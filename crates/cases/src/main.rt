@@ -113,7 +113,7 @@ fn played_twice(rt: &impl Print, path: &str, circuit: &[u8], rec: &mut [i32]) ->
 fn played_with(rt: &impl Print, path: &str, circuit: &[u8], n: usize) -> io::Result<()> {
     if n <= BLOCKS {
         let mut room = [0i32; RECORD];
-        played_twice(rt, path, circuit, &mut room[..164 + 3 * n])?;
+        played_twice(rt, path, circuit, &mut room[..record::size_of(n)])?;
     }
     Ok(())
 }

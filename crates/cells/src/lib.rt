@@ -4,7 +4,7 @@
 ghost use Rattle.std.specs.Prelude.{◌≡◌, ℕ, List, ◌+◌, ◌≤◌, ◌<◌, ◌^◌, length, drop};
 ghost use Rattle.cells.specs.Cells.{ending_of, cell_of, ending, ending_size, stops, plain_size, quoted_size, finish, closed, cell_at};
 
-// How a cell ends: by the end of the text, a comma, LF, CRLF; or not at all.
+// How a cell ends: by the end of the text, a comma, LF, CRLF; or not at all. No `Option`: a broken cell has a start, a size and a next place too.
 #[derive(Clone, Copy)]
 pub enum Ending {
     Text,

@@ -16,7 +16,7 @@ use cursor::Fields;
 use decoding::Known;
 use refusals::{Answer, Limits, OLDER, OURS, Refusal, Refused, Stage};
 
-// Takes the next field, by its tag.
+// Takes the next field, by its tag. `known` and not an iterator: what comes next differs from field to field, and the end is a state and no length.
 fn take_next(limits: &Limits, fields: &mut Fields, known: &mut Known) -> Result<(), Refusal>
     requires { Sound (head_of known.old) fields.old.at × Modest limits.now × (stage_of known.old.stage ≡ ended → ⊥) }
     ensures same { fields.new.bytes.now ≡ fields.old.bytes.now }

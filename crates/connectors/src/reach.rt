@@ -15,12 +15,13 @@ pub struct Reach<'a> {
     pub limits: Limits,
     pub n: usize,
     pub blocks: usize,
+    // all of the array: `wrong` speaks of a list of which the first `blocks` count
     pub sorts: &'a [bool; 400],
     ghost in_sorts: { blocks ≤ 400 },
 }
 
 impl Reach<'_> {
-    // Whether a class is allowed at a spot, with this byte and this number.
+    // Whether a class is allowed at a spot, with this byte and this number. The byte tells the inversion alone, so a flag for it is no plainer.
     #[tactic(auto, unfolding(crate::specs::Connectors::misfits))]
     fn allows(&self, spot: Spot, class: Class, byte: u8, number: usize) -> bool
         requires { class_code class ≡ byte % 128 }

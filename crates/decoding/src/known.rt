@@ -21,7 +21,7 @@ pub struct Known {
     blocks: usize,
     pub rows: usize,
     pub start: usize,
-    // of each block where it stands, and whether it is analog
+    // of each block where it stands, and whether it is analog: arrays of fixed length, since there is no heap, and two, as each is lent alone
     pub offsets: [usize; 400],
     sorts: [bool; 400],
     // the destinations and the indices of shift registers that are used

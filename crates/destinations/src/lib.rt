@@ -20,7 +20,7 @@ const SLOTS: usize = 156;
 // Those of the outputs, Q and AQ.
 pub const OUTPUTS: usize = 28;
 
-// The slots before those of a class.
+// The slots before those of a class. Not the marks of `fields`: the two count the classes in different orders.
 #[tactic(auto, unfolding(crate::specs::Slots::base))]
 fn base_of(class: Destination) -> usize
     ensures { result ≡ base (class_code class) }

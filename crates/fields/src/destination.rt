@@ -89,7 +89,7 @@ impl Destination {
     }
 }
 
-// The spot of the connector of a row, by the code of its destination's class.
+// The spot of the connector of a row, by the code of its destination's class: the connector of an unknown class is judged before the class is refused.
 pub(crate) fn spot_at(code: u8) -> Spot
     ensures { spot_code result ≡ spot_of code }
 {

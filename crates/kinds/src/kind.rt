@@ -147,7 +147,7 @@ impl Kind {
         self.row().length as usize
     }
 
-    // Whether a parameter is in its range. One that the kind has not is to be 0.
+    // Whether a parameter is in its range. One that the kind has not is to be 0. Two tests: the proof with `contains` did not close.
     pub fn parameter_fits(self, j: usize, x: i32) -> bool
         requires { j < 4 }
         ensures { result ≡ in_range (range_at (kind_of (byte_of self)) j) x }

@@ -44,7 +44,7 @@ impl From<Setting> for Ticks {
     }
 }
 
-// The greatest setting of a timebase.
+// The greatest setting of a timebase. It takes any number, since it is parameters of any value that are judged.
 pub fn longest_of(base: i32) -> i32
     ensures { result ≡ pos (longest (over base)) }
 {

@@ -17,6 +17,7 @@ pub struct Row {
     // how many parameters, how many settings follow the timebase, the ends of each parameter, and 0 for one that the kind has not
     pub parameters: u8,
     pub times: u8,
+    // two arrays of numbers: the check covers no table whose rows hold an array of structs
     pub least: [i32; 4],
     pub greatest: [i32; 4],
     pub retentive: bool,

@@ -12,7 +12,8 @@ ghost use Rattle.lines.specs.Lines.{nth, input_said, inputs_said, line_of, line_
 use blocks::Prepared;
 use kinds::{Kind, Setting, Ticks};
 
-// What an input of a block is connected to: class byte and number; 0 and 0 where to nothing.
+// What an input of a block is connected to: class byte and number; 0 and 0 where to nothing. The byte and no `Class`: what `value_from` and `bit_from`
+// promise holds of every byte.
 #[derive(Clone, Copy)]
 pub struct Input {
     pub class: u8,

@@ -45,6 +45,7 @@ fn publish_first(circuit: &[u8], rec: &mut [i32], outs: &mut [i32], k: u32) -> A
     scan::publish(circuit, rec, &mut outs[..n])
 }
 
+// The call is told by its number, since an order is words.
 // Makes one call: latch with all input words and e, run up to c blocks, publish with the first c output words.
 pub fn make(
     circuit: &[u8],

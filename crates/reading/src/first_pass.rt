@@ -117,7 +117,7 @@ impl Counted {
     }
 }
 
-// Judges and counts the rows up to the first with a fault.
+// Judges and counts the rows up to the first with a fault. A `while`: how far a row goes is known when it is split.
 pub fn survey(held: &mut Held, room: usize) -> Result<Counted, Refused>
     ensures text { held.new.text ≡ held.old.text }
     ensures surveys { Surveys held.old.text.now room (surveyed_of result) }

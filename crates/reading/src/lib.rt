@@ -22,10 +22,10 @@ fn read(text: &[u8], circuit: &mut [u8]) -> Result<(usize, usize), Refused>
     let counted = survey(&mut held, circuit.len())?;
     let are_too_many = 400 < counted.blocks;
     if are_too_many {
-        return Err(Refusal::TooManyBlocks.at(0));
+        return Err(Refusal::TooManyBlocks.into());
     }
     if counted.left.is_none() {
-        return Err(Refusal::NoRoom.at(0));
+        return Err(Refusal::NoRoom.into());
     }
     put_header(circuit, counted.blocks);
     let end = fill(&mut held, circuit);

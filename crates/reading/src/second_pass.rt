@@ -79,7 +79,7 @@ fn put_row(held: &mut Held, at: usize, circuit: &mut [u8], to: usize) -> Placed
     }
 }
 
-// Puts the fields of all rows behind the header; answers where they end.
+// Puts the fields of all rows behind the header; answers where they end. A `while`, as in the first pass.
 pub fn fill(held: &mut Held, circuit: &mut [u8]) -> usize
     requires sound { reading_from 1 (rows_of held.old.text.now) ≡ sound }
     requires room { 6 + length (joined fields_of (rows_of held.old.text.now)) ≤ length circuit.old }

@@ -12,7 +12,7 @@ use crate::in_scan;
 use crate::place::{ANALOG_FLAGS, ANALOGS, BLOCKS, FLAGS, INPUTS, Place};
 use crate::plan::Plan;
 
-// The word at a place that the record has.
+// The word at a place that the record has: no test of the length, which `word` makes each time.
 fn held(rec: &[i32], place: Place) -> i32
     requires { index_of (said place) < length rec.now }
     ensures { result ≡ word rec.now (said place) }

@@ -75,7 +75,7 @@ impl Refusal {
     }
 }
 
-// A refusal, and its place: 0 where it is of no field.
+// A refusal, and its place: 0 where it is of no field, as the answer in C has it.
 #[derive(Clone, Copy, PartialEq, Eq)]
 pub struct Refused {
     pub refusal: Refusal,
@@ -90,7 +90,7 @@ impl From<Refusal> for Refused {
     }
 }
 
-// Refusal number or 0, place, first, second.
+// Refusal number or 0, place, first, second: four numbers, since C knows no `Result`.
 #[repr(C)]
 #[derive(Clone, Copy)]
 pub struct Answer {
@@ -121,7 +121,7 @@ impl From<Result<(usize, usize), Refused>> for Answer {
     }
 }
 
-// A field that lies within the bytes: its first byte, and the length of its content.
+// A field that lies within the bytes: its first byte, and the length of its content. It holds no part of the slice, since a refusal tells the place.
 #[derive(Clone, Copy)]
 pub struct Field<'a> {
     pub bytes: &'a [u8],
@@ -149,7 +149,8 @@ pub enum Stage {
     Ended,
 }
 
-// The most blocks, and the greatest number of Q, AQ, M and AM.
+// The most blocks, and the greatest number of Q, AQ, M and AM. Any numbers: what is promised of `Destination::limit` holds at all limits, so that they
+// are not above ours (`Modest`) is asked where the arrays need it.
 #[derive(Clone, Copy)]
 pub struct Limits {
     pub blocks: usize,

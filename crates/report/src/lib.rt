@@ -15,7 +15,7 @@ const MOST: usize = 65536;
 
 pub const ROOM: usize = 65537;
 
-// The four numbers of an answer on one line.
+// The four numbers of an answer on one line. Here and no `Display` in `refusals`: the archive's crates have no text.
 pub fn line(rt: &impl Print, a: Answer) -> io::Result<()> {
     println!(rt; "{} {} {} {}", a.number, a.place, a.first, a.second)
 }
@@ -44,7 +44,7 @@ pub fn judged(rt: &impl Print, bytes: &[u8]) -> io::Result<Option<usize>> {
 // The bytes of a row's field.
 const ROW_FIELD: usize = 8;
 
-// The name of a class of destinations.
+// The name of a class of destinations. Here and no `Display` in `fields`: the archive's crates have no text.
 fn name(class: Destination) -> &'static str {
     match class {
         Destination::Output => "Q",
@@ -83,10 +83,8 @@ fn block_at(offsets: &[usize; 400], place: usize) -> Option<usize>
 // The block or the row at a place.
 fn field_at(rt: &impl Print, place: usize, known: &Known) -> io::Result<()> {
     if place < known.start {
-        let number = match block_at(&known.offsets, place) {
-            Some(k) => k + 1,
-            None => 0,
-        };
+        // 0 is what is printed where no block begins
+        let number = block_at(&known.offsets, place).map_or(0, |k| k + 1);
         print!(rt; "block {number}")?;
     } else {
         print!(rt; "row {}", (place - known.start) / ROW_FIELD + 1)?;

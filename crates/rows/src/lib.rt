@@ -38,7 +38,7 @@ pub fn output_shape() -> Shape
     }
 }
 
-// How many numbers follow the tag.
+// How many numbers follow the tag. By the two counts and not by a `Shape`, as those who write the numbers walk over them by their place.
 pub fn numbers_in(inputs: usize, parameters: usize) -> usize
     requires { 2 * inputs + parameters ≤ 11 }
     ensures { result ≡ 2 + 2 * inputs + parameters }
@@ -46,7 +46,7 @@ pub fn numbers_in(inputs: usize, parameters: usize) -> usize
     2 + 2 * inputs + parameters
 }
 
-// How many bytes number j behind the tag takes, from 0.
+// How many bytes number j behind the tag takes, from 0. A number and not an enum: `below_of` and `above_of` answer for every width.
 #[tactic(auto, unfolding(crate::specs::Widths::width_at))]
 pub fn width_at(inputs: usize, j: usize) -> usize
     requires { inputs ≤ 4 }
@@ -74,7 +74,7 @@ pub fn below_of(width: usize) -> u32
     }
 }
 
-// How far above 0.
+// How far above 0. Two functions with `below_of`, as there are two definitions.
 #[tactic(auto, unfolding(crate::specs::Columns::above_of))]
 pub fn above_of(width: usize) -> u32
     ensures { result ≡ above_of width }

@@ -6,6 +6,7 @@ use crate::BlockWords;
 use kinds::Ticks;
 
 // The ticks run, e ticks later, and no more than those set.
+// By three ticks and not by a `Run`, which asks more of T.
 pub fn grown_to(ta: Ticks, t: Ticks, e: Ticks) -> Ticks
     requires { (ta.0 < 2 ^ 31) × (e.0 < 2 ^ 31) }
     ensures { result ≡ grown ta t e }

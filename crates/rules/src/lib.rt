@@ -50,7 +50,7 @@ impl BlockWords {
     }
 }
 
-// Three words put together.
+// Three words put together. It stands beside the methods, as definitions and pages name it.
 pub fn three_of(output: i32, remembered: i32, number: i32) -> BlockWords
     ensures { result ≡ three output remembered number }
 {

@@ -70,7 +70,7 @@ fn is_finished(rec: &[i32], n: usize) -> bool
     record::in_scan(rec) & (n <= record::done_of(rec))
 }
 
-// ---- the calls: first and second of the answer, or why it is refused
+// ---- the calls: first and second of the answer, or why it is refused. Each holds what is known and lends it: by value its 3.8 KB would be copied
 
 pub fn cold_start(circuit: &[u8], rec: &mut [i32]) -> Result<(usize, usize), Refused>
     ensures { (answer_of result ≡ answer_after circuit.now cold_start rec.old)

@@ -16,7 +16,7 @@ fn next_said(text: &[u8]) -> Option<(u8, &[u8])>
     }
 }
 
-// How many bytes a cell says.
+// How many bytes a cell says. A size and a put, as in `writing`.
 #[tactic(auto, using(crate::proofs::Copies::undouble_shorter))]
 pub fn content_size(cell: &[u8], quoted: bool) -> usize
     ensures { (result ≡ length (said_by cell.now quoted)) × (result ≤ length cell.now) }

@@ -24,7 +24,7 @@ fn bits_of(number: Option<Number>) -> u32
     }
 }
 
-// Puts a number into one, two or four bytes.
+// Puts a number into one, two or four bytes; nothing at a width that no number has, for which `packed` has no bytes to put.
 fn put_packed(circuit: &mut [u8], to: usize, width: usize, number: Option<Number>)
     requires room { to + width ≤ length circuit.old }
     requires small { (number_read number).size ≤ 2147483648 }

@@ -86,7 +86,7 @@ pub fn bit_from(rec: &[i32], unused: bool, input: Input) -> bool
     (128 <= input.class) ^ plain_bit(rec, unused, input)
 }
 
-// The four digital inputs of a line.
+// The four digital inputs of a line. Four calls: the clause of `map` speaks of runs of its closure, and is no plainer.
 fn bits_of(rec: &[i32], line: &Line) -> [bool; 4]
     requires { Fine (line_said line.now) }
     ensures { result ≡ bits_of rec.now (line_said line.now) }

@@ -1,4 +1,4 @@
-// Mark and label of a block, where a label's field may stand.
+// Mark and label of a block, where a label's field may stand. A size and a put for each part, as the root says.
 ghost use Rattle.std.specs.Prelude.{◌≡◌, [], ◌∷◌, ◌+◌, ◌≤◌, ◌<◌, length};
 ghost use Rattle.std.proofs.lemmas.List.Edits.{sets};
 ghost use Rattle.cells.specs.Cells.{double, special, any_special, write_cell};

@@ -1,4 +1,4 @@
-// The numbers of a field, each behind a comma.
+// The numbers of a field, each behind a comma. A size and a put for each part, as the root says.
 ghost use Rattle.std.specs.Prelude.{◌≡◌, ◌+◌, ◌≤◌, length};
 ghost use Rattle.std.proofs.lemmas.List.Edits.{sets};
 ghost use Rattle.std.specs.Int.{w32};

@@ -41,13 +41,13 @@ returns-in_err-counted-clause-circuit c =
     untouched _ _ _ (faulty-answer _ _ _ (rw is at (surveyed (goal.at.returns-in_err-counted-clause-circuit c).After-survey)) (λ z. omega (arith, n))) (λ z. omega (arith, n))
 
 pub returns-then-are_too_many-clause-answer : goal.returns-then-are_too_many-clause-answer
-returns-then-are_too_many-clause-answer c = rw c.at.ensures (too_many (goal.at.returns-then-are_too_many-clause-answer c).Then-are_too_many)
+returns-then-are_too_many-clause-answer c = rw c.into.ensures (too_many (goal.at.returns-then-are_too_many-clause-answer c).Then-are_too_many)
 
 pub returns-then-are_too_many-clause-circuit : goal.returns-then-are_too_many-clause-circuit
 returns-then-are_too_many-clause-circuit c = untouched _ _ _ (too_many (goal.at.returns-then-are_too_many-clause-circuit c).Then-are_too_many) (λ z. omega arith)
 
 pub returns-then-is_none-clause-answer : goal.returns-then-is_none-clause-answer
-returns-then-is_none-clause-answer c = rw c.at-then-is_none.ensures (no_room (goal.at.returns-then-is_none-clause-answer c).Then-is_none)
+returns-then-is_none-clause-answer c = rw c.into-then-is_none.ensures (no_room (goal.at.returns-then-is_none-clause-answer c).Then-is_none)
 
 pub returns-then-is_none-clause-circuit : goal.returns-then-is_none-clause-circuit
 returns-then-is_none-clause-circuit c = untouched _ _ _ (no_room (goal.at.returns-then-is_none-clause-circuit c).Then-is_none) (λ z. omega arith)
