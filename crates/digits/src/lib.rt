@@ -13,7 +13,7 @@ pub struct Number {
     pub size: u32,
 }
 
-// A tenth, without division.
+// A tenth. It stays a product: the archive has no division.
 fn tenth(n: u32) -> u32
     ensures { result ≡ n / 10 }
 {

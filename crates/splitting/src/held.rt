@@ -15,7 +15,7 @@ pub struct Span {
     pub size: usize,
 }
 
-// How many cells are held: no row that is taken has more.
+// How many cells are held: no row that is taken has more. An array and the row's count beside it, as the archive has no heap.
 const HELD: usize = 16;
 
 // The first cells of a row of a text, each within the text.

@@ -1,6 +1,5 @@
 // Writes an accepted circuit as rows: its text is measured first, then written.
-// Each part has a size and a put of its own. One sink for both is no plainer: its room and place would stand in every clause, and the
-// digits of a number are put from the last one on.
+// Sizes and puts stay apart, each put with slice and place: one sink for both is no plainer, as room, place and their laws stand in every clause.
 #![tactic(auto)]
 
 mod label;
