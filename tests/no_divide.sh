@@ -16,11 +16,11 @@ divisions() {
         END { exit !found }' "$work/code"
 }
 
-# routines OBJECT: names in it that are neither ours nor those of memory moves. So those of routines for division too, whatever a compiler calls them.
+# routines OBJECT: names in it that are neither ours, nor of a table of a `match` of ours, nor those of memory moves. So those of routines for division too, whatever a compiler calls them.
 own=$(sed -n 's/^serifdove staticlib: //p' crates.txt | tr ' ' '|')
 routines() {
     "${tools}nm" "$1" >"$work/names" || exit 2
-    awk 'NF > 1 { print $NF }' "$work/names" | sort -u | grep -v -E "^(serifdove_[a-z_]+|($own)(::[A-Za-z_0-9]+)+|\.L[A-Z0-9_.]+|memcpy|memmove|memset)$"
+    awk 'NF > 1 { print $NF }' "$work/names" | sort -u | grep -v -E "^((\.Lswitch\.table\.)?(serifdove_[a-z_]+|($own)(::[A-Za-z_0-9]+)+)|\.L[A-Z0-9_.]+|memcpy|memmove|memset)$"
 }
 
 # signs FILE..: its lines of code with a '/', a '%' or a call that divides (div_euclid, wrapping_rem, ..). Literals, comments, contracts and what contracts
