@@ -12,7 +12,7 @@ use lib.IntN.{ℤ, pos}
 use Rattle.words.proofs.Bounds.{and-true}
 use Rattle.std.specs.List.{between}
 use Rattle.std.proofs.lemmas.Bool.{cases_lt}
-use Rattle.std.proofs.lemmas.List.{ext_get_or, take_more, length-append, length-take, length-take-le, length-drop, get_or-append_right, get_or_append_left, get_or-take, length-replicate, get_or-drop, get_or-replicate}
+use Rattle.std.proofs.lemmas.List.{ext_get_or, take_more, length-append, length-take, length-take-le, length-drop, get_or-append_right, get_or_append_left, set_past, get_or-take, length-replicate, get_or-drop, get_or-replicate}
 use borrow.Rule.Slice.PartMut.{put_mid}
 use native.Mathlib.Numerals.{add-one}
 use Rattle.kinds.specs.Kinds.{Range, in_range}
@@ -46,6 +46,29 @@ put-all-in l a (suc m) g i h k s =
         let e : a + m - a ≡ m = omega arith in
         let b : a + m < length l = omega arith in
         rw (q, e) (get_or-set_same (put_all l a m g) (a + m) (g m) (pos 0) (rw (put-all-length l a m g) b))
+
+-- past the end nothing is stored
+put-all-past : (l : List ℤ) (a m : ℕ) (g : ℕ → ℤ) → length l ≤ a → put_all l a m g ≡ l
+unfolding put_all
+put-all-past l a zero g h = refl
+put-all-past l a (suc m) g h = rw (put-all-past l a m g h) (set_past l (a + m) (g m) (omega arith))
+
+-- from a place cut at the end
+pub from_cut : (l : List ℤ) (s a m : ℕ) (g : ℕ → ℤ) → s ≡ min a (length l) → put_all l s m g ≡ put_all l a m g
+from_cut l s a m g e =
+    ⊎_elim
+    (λ (h : a < length l). let q : s ≡ a = omega arith in ap (λ (k : ℕ). put_all l k m g) q)
+    (λ (h : length l ≤ a). put-all-past l s m g (omega arith) ∙ sym (put-all-past l a m g h))
+    (cases_lt a (length l))
+
+-- all of them stored
+pub whole_stored : (l xs : List ℤ) → length l ≡ length xs → put_all l 0 (length xs) (at xs) ≡ xs
+whole_stored l xs e =
+    ext_get_or (pos 0) _ _ (put-all-length l 0 (length xs) (at xs) ∙ e)
+    (λ i h.
+    let long = put-all-length l 0 (length xs) (at xs) in
+    let whole : i - 0 ≡ i = omega arith in
+    put-all-in l 0 (length xs) (at xs) i (omega arith) (omega (arith, long)) (omega (arith, long)) ∙ ap (at xs) whole)
 
 module _ (l : List ℤ) where
   -- a store of a part, cut at the end

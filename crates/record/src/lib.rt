@@ -21,21 +21,34 @@ pub use sound::{are_within, is_sound, is_within};
 
 // ---- one word
 
+// The word at an index, 0 past the end.
+fn word_at(rec: &[i32], i: usize) -> i32
+    ensures { result ≡ at rec.now i }
+{
+    rec.get(i).copied().unwrap_or(0)
+}
+
 // The word at a place, 0 past the end.
 pub fn word(rec: &[i32], place: Place) -> i32
     ensures { result ≡ word rec.now (said place) }
 {
-    rec.get(place.index()).copied().unwrap_or(0)
+    word_at(rec, place.index())
+}
+
+// Stores a word at an index; nothing past the end.
+fn put_word(rec: &mut [i32], i: usize, z: i32)
+    ensures { rec.new ≡ set rec.old i z }
+{
+    if i < rec.len() {
+        rec[i] = z;
+    }
 }
 
 // Stores a word at a place; nothing past the end.
 pub fn put(rec: &mut [i32], place: Place, z: i32)
     ensures { rec.new ≡ put rec.old (said place) z }
 {
-    let i = place.index();
-    if i < rec.len() {
-        rec[i] = z;
-    }
+    put_word(rec, place.index(), z);
 }
 
 // How many words the record of n blocks has.
@@ -98,15 +111,33 @@ pub fn put_words(rec: &mut [i32], k: u16, w: BlockWords)
 
 // ---- words one after the other
 
-// Stores words one after the other, from a place on; none past the end.
-#[tactic(auto, using(crate::proofs::Runs::part_stored))]
+// Stores words one after the other, from an index on; none past the end. Word by word: `copy_from_slice` calls a routine that the archive would need
+// from outside.
+fn put_run(rec: &mut [i32], a: usize, from: &[i32])
+    requires { (a ≤ length rec.old) × (length from.now ≤ 2000) }
+    ensures { rec.new ≡ put_all rec.old a (length from.now) (at from.now) }
+{
+    for i in 0..from.len() {
+        put_word(rec, a + i, word_at(from, i));
+    }
+}
+
+// From a place on.
+#[tactic(auto, using(crate::proofs::Runs::from_cut))]
 pub fn put_all(rec: &mut [i32], first: Place, from: &[i32])
     requires { length from.now ≤ 2000 }
     ensures { rec.new ≡ put_all rec.old (index_of (said first)) (length from.now) (at from.now) }
 {
     let start = first.index().min(rec.len());
-    let end = (start + from.len()).min(rec.len());
-    rec[start..end].copy_from_slice(&from[..end - start]);
+    put_run(rec, start, from);
+}
+
+// The output words, which stand from 0 on.
+pub fn put_outputs(outs: &mut [i32], from: &[i32])
+    requires { length from.now ≤ 2000 }
+    ensures { outs.new ≡ put_all outs.old 0 (length from.now) (at from.now) }
+{
+    put_run(outs, 0, from);
 }
 
 // Zeroes the words before a place.
