@@ -115,7 +115,7 @@ pub fn publish_words(bytes: &[u8], start: usize, count: usize, rec: &mut [i32], 
     let mut slots = [0; SLOTS];
     fill_rows(bytes, start, count, rec, &mut slots);
     let (shown, flags) = slots.split_at(OUTPUTS);
-    outs.copy_from_slice(shown);
+    record::put_outputs(outs, shown);
     record::put_all(rec, Place::Flag(1), flags);
     clear_eighth(rec, marked);
     record::clear_before(rec, Place::Input(1));

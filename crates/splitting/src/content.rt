@@ -49,6 +49,21 @@ fn put_undoubled(circuit: &mut [u8], to: usize, cell: &[u8]) -> usize
     place
 }
 
+// Puts bytes at a place, as they stand. One by one: `copy_from_slice` calls a routine that the archive would need from outside.
+#[tactic(auto, using(crate::proofs::Copies::put_one))]
+fn put_plain(circuit: &mut [u8], to: usize, cell: &[u8])
+    requires { to + length cell.now ≤ length circuit.old }
+    ensures { circuit.new ≡ sets circuit.old to cell.now }
+{
+    let mut rest = cell;
+    let mut place = to;
+    while let [x, behind @ ..] = rest {
+        circuit[place] = *x;
+        place += 1;
+        rest = behind;
+    }
+}
+
 // Puts the bytes that a cell says at a place, and tells how many they are: "doubled quotes are undone when it is copied".
 pub fn put_content(circuit: &mut [u8], to: usize, cell: &[u8], quoted: bool) -> usize
     requires { to + length (said_by cell.now quoted) ≤ length circuit.old }
@@ -57,6 +72,6 @@ pub fn put_content(circuit: &mut [u8], to: usize, cell: &[u8], quoted: bool) -> 
     if quoted {
         return put_undoubled(circuit, to, cell) - to;
     }
-    circuit[to..to + cell.len()].copy_from_slice(cell);
+    put_plain(circuit, to, cell);
     cell.len()
 }

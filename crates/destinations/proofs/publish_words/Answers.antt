@@ -1,11 +1,12 @@
 -- `destinations::publish_words` meets its contract: the slots, filled from the old words, are the outputs and the flags; then M8 and the
 -- head. Assumes nothing.
 use native.Mathlib.Omega.{arith}
-use mathlib.Core.Path.{◌∙◌, ap}
+use mathlib.Core.Path.{◌∙◌, ap, sym}
 use Rattle.words.specs.Signed.{bit_of}
 use Rattle.record.specs.Places.{index_of, word}
 use Rattle.record.specs.Places as places
 use Rattle.decoding.specs.Held.{rows_at}
+use Rattle.record.proofs.Runs.{whole_stored}
 use Rattle.destinations.proofs.Filled.{front_part, back_part, outputs-are}
 use Rattle.destinations.proofs.Published.{headless, cleared, published}
 use Rattle.destinations.proofs.publish_words.Goals as goal
@@ -24,5 +25,5 @@ returns c =
       c.clear_before.ensures
           ∙ ap headless (eighth ∙ ap (cleared (bit_of (word l places.mark))) stored)
           ∙ published rows l fine c.requires.1 _ flags,
-      c.copy_from_slice.ensures.after ∙ outputs-are rows l fine _ outputs,
+      c.put_outputs.ensures ∙ whole_stored c.args.outs.now _ (c.requires.2 ∙ sym outputs.long) ∙ outputs-are rows l fine _ outputs,
     )
