@@ -80,6 +80,10 @@ above-goes : (x : ℕ) (l : List ℕ) → 44 < x → stops (x ∷ l) ≡ false
 unfolding stops ending starts none
 above-goes x l g = rw (ne_eqb x 34 (λ q. omega arith), ne_eqb x 44 (λ q. omega arith), ne_eqb x 10 (λ q. omega arith), ne_eqb x 13 (λ q. omega arith))
 
+other-goes : (x : ℕ) (l : List ℕ) → (x ≡ 44 → ⊥) → (x ≡ 34 → ⊥) → (x ≡ 13 → ⊥) → (x ≡ 10 → ⊥) → stops (x ∷ l) ≡ false
+unfolding stops ending starts none
+other-goes x l comma quote return feed = rw (ne_eqb x 34 quote, ne_eqb x 44 comma, ne_eqb x 10 feed, ne_eqb x 13 return)
+
 comma-stops : (l : List ℕ) → stops (44 ∷ l) ≡ true
 unfolding stops ending starts
 comma-stops l = refl
@@ -98,10 +102,15 @@ module _ (s : List ℕ) (i : ℕ) where
 pub plain_above : (s : List ℕ) (i : ℕ) → i < length s → 44 < get_or s i 0 → plain_size (drop i s) ≡ 1 + plain_size (drop (i + 1) s)
 plain_above s i h g = plain-next s i h (rw (drop-cons s i 0) (above-goes (get_or s i 0) (drop (suc i) s) g))
 
+-- nor does another one that is neither comma, quote, CR nor LF
+pub plain_other : (s : List ℕ) (i : ℕ) → i < length s → (get_or s i 0 ≡ 44 → ⊥) → (get_or s i 0 ≡ 34 → ⊥) → (get_or s i 0 ≡ 13 → ⊥) → (get_or s i 0 ≡ 10 → ⊥)
+    → plain_size (drop i s) ≡ 1 + plain_size (drop (i + 1) s)
+plain_other s i h a b c d = plain-next s i h (rw (drop-cons s i 0) (other-goes (get_or s i 0) (drop (suc i) s) a b c d))
+
 pub plain_comma : (s : List ℕ) (i : ℕ) → i < length s → get_or s i 0 ≡ 44 → plain_size (drop i s) ≡ 0
 plain_comma s i h e = plain-stop (drop i s) (rw (drop-cons s i 0, e) (comma-stops (drop (suc i) s)))
 
-pub ruleset plain_steps = (plain-stop, plain-next, plain-past, plain_above, plain_comma)
+pub ruleset plain_steps = (plain-stop, plain-next, plain-past, plain_other)
 
 text-first : (l : List ℕ) → 1 ≤ length l → (get_or l 0 0 ≡ 34 → ⊥) → quoted_size l ≡ 1 + quoted_size (drop 1 l)
 text-first [] h n = absurd (omega arith)
