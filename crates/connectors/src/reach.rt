@@ -66,6 +66,7 @@ impl Reach<'_> {
     }
 
     // Of a block's inputs of one sort, `count` connectors from a place on: whether one names the own or a later block.
+    #[tactic(auto, using(crate::proofs::Laws::six_ends))]
     pub fn judge_inputs(
         &self,
         bytes: &[u8],

@@ -10,15 +10,6 @@ use Rattle.connectors.proofs.Laws.{any_from, or_false, one-more, from-none, carr
 use Rattle.connectors.proofs.reach.Reach.judge_inputs.Goals.{in-Err+in-OwnOrLaterBlock, in_default}
 use Rattle.connectors.proofs.reach.Reach.judge_inputs.Goals as goal
 
-pub returns-in_default-refusal-clause-number : goal.returns-in_default-refusal-clause-number
-returns-in_default-refusal-clause-number c =
-    let a = c.args in
-    let s = a.self.now in
-    let f = wrong s.limits (spot_code a.spot) (s.blocks + 1) s.n s.sorts.now in
-    let t = six-told _ _ _ c.in-Err.ensures c.in_default-refusal.not-OwnOrLaterBlock in
-    let more = one-more f a.bytes.now a.at a.count c.loop-j.j c.loop-j-test.true in
-    t.1 ∙ ap (λ (x : Bool). cond x 6 0) (sym (more ∙ ap (λ (x : Bool). x || any_from f a.bytes.now a.at a.count (c.loop-j.j + 1)) t.0) ∙ c.loop-j.invariant.0)
-
 pub loop-j-preserved : goal.loop-j-preserved
 loop-j-preserved c =
     let a = c.args in
