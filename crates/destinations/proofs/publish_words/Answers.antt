@@ -24,5 +24,5 @@ returns c =
       c.clear_before.ensures
           ∙ ap headless (eighth ∙ ap (cleared (bit_of (word l places.mark))) stored)
           ∙ published rows l fine c.requires.1 _ flags,
-      c.copy_from_slice.ensures.after ∙ outputs-are rows l fine _ outputs,
+      c.show.ensures ∙ outputs-are rows l fine _ outputs,
     )
