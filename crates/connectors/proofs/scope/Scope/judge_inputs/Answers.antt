@@ -1,12 +1,11 @@
 -- `connectors::Scope::judge_inputs` meets its contract: what is left gives the answer, one connector after the other. Assumes nothing.
 use mathlib.Core.Path.{sym, ap, ◌∙◌, refl}
-use mathlib.Core.Bool.{Bool, cond, ◌||◌, false}
+use mathlib.Core.Bool.{Bool, cond, false}
 use native.Mathlib.Omega.{arith}
-use Prim.Native.Nat.{◌+◌}
 use Rattle.refusals.specs.Refusals.{number_of}
 use Rattle.connectors.specs.Codes.{spot_code}
 use Rattle.connectors.specs.Connectors.{wrong, later}
-use Rattle.connectors.proofs.Laws.{any_from, or_false, one-more, from-none, carried-true, carried-false, seven-told, none-told, six-told}
+use Rattle.connectors.proofs.Laws.{or_false, one-more, from-none, carried-true, carried-false, seven-told, none-told}
 use Rattle.connectors.proofs.scope.Scope.judge_inputs.Goals.{in-Err+in-OwnOrLaterBlock, in_default}
 use Rattle.connectors.proofs.scope.Scope.judge_inputs.Goals as goal
 

@@ -1,6 +1,5 @@
 use mathlib.Core.Path.{◌≡◌}
 use mathlib.Core.Bool.{◌||◌}
-use Prim.Native.Nat.{◌+◌}
 use Rattle.connectors.specs.Codes.{spot_code}
 use Rattle.connectors.specs.Connectors.{wrong, later, any_of, connectors_at}
 use Rattle.connectors.proofs.Laws.{any_from}

@@ -1,6 +1,5 @@
 -- `connectors::Scope::judge_parts` meets its contract. Assumes nothing.
 use mathlib.Core.Path.{◌≡◌, sym, ◌∙◌}
-use Prim.Native.Nat.{◌+◌}
 use native.Mathlib.Omega.{arith}
 use Rattle.std.proofs.lemmas.Grind.{common_steps}
 use Rattle.words.proofs.Masks.{low-seven-bits}
