@@ -275,6 +275,10 @@ proper-of s at size stage n count kind is-kind opened rowed full long room optio
       option = option;
     }
 
+-- judged by an own number that is one above the blocks before
+pub by-own : (limits : Limits) (s : List ℕ) (at kind n count : ℕ) (sorts : List Bool) (fault own : ℕ) → fault ≡ lowest (known_faults limits s at kind own n sorts) → own ≡ count + 1 → fault ≡ lowest (known_faults limits s at kind (count + 1) n sorts)
+by-own limits s at kind n count sorts fault own e is-own = e ∙ ap (λ (k : ℕ). lowest (known_faults limits s at kind k n sorts)) is-own
+
 -- what is left to judge of it
 module _ (limits : Limits) (s : List ℕ) (at size stage n count kind : ℕ) (sorts : List Bool) (used : Bool) (proper : Proper s at size stage n count kind) where
   abbrev is_wrong : Bool

@@ -189,3 +189,9 @@ module _ (f : Connector → Bool) (s : List ℕ) (at count : ℕ) where
   pub from-none : (j : ℕ) → j ≡ count → any_from j ≡ false
   unfolding any_of connectors_at
   from-none j e = let q : count - j ≡ 0 = omega arith in rw q refl
+
+  -- one of them is refused, and not by 7: so all of them are refused by 6
+  pub six_ends : (g : Connector → Bool) (j : ℕ) (refusal : Refusal) → j < count → any_from j ≡ any_of f (connectors_at s at count) → number_of refusal ≡ six_or_seven (f (connector_at s (at + 3 * j))) (g (connector_at s (at + 3 * j))) → (refusal ≡ OwnOrLaterBlock → ⊥) → number_of refusal ≡ cond (any_of f (connectors_at s at count)) 6 0
+  six_ends g j refusal h e told ne =
+      let t = six-told _ _ refusal told ne in
+      t.1 ∙ ap (λ (x : Bool). cond x 6 0) (sym (one-more j h ∙ ap (λ (x : Bool). x || any_from (j + 1)) t.0) ∙ e)

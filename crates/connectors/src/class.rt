@@ -1,6 +1,7 @@
 ghost use Rattle.std.specs.Prelude.{◌≡◌, not, [], ◌∷◌, eqb};
 ghost use Rattle.connectors.specs.Connectors.{member, takes, inverts, least, greatest, names_block, names_analog, unknown_row};
 ghost use Rattle.connectors.specs.Codes.{class_code, spot_code, Decodes};
+ghost use Rattle.connectors.specs.Named.{takes_in_bits, plain_in_bits, least_in_bits};
 
 use refusals::{Limits, Refusal};
 
@@ -53,9 +54,11 @@ impl Class {
     }
 
     // Whether it can be inverted.
-    #[tactic(auto, unfolding(crate::specs::Connectors::inverts, crate::specs::Connectors::member))]
+    // `bits`: as the table `plain_in_bits` of bits says, whose law (`plain-bits`) so holds this code.
+    #[tactic(auto, using(crate::proofs::Bits::plain_told), unfolding(crate::specs::Connectors::inverts, crate::specs::Connectors::member))]
     pub(crate) fn inverts(self) -> bool
-        ensures { result ≡ inverts (class_code self) }
+        ensures is { result ≡ inverts (class_code self) }
+        ensures bits { plain_in_bits (class_code self) ≡ not result }
     {
         matches!(
             self,
@@ -79,9 +82,11 @@ impl Class {
     }
 
     // The least number.
-    #[tactic(auto, unfolding(crate::specs::Connectors::least))]
+    // `bits`: as the table `least_in_bits` of bits says, whose law (`least-bits`) so holds this code.
+    #[tactic(auto, using(crate::proofs::Bits::least_told), unfolding(crate::specs::Connectors::least))]
     pub(crate) fn least(self) -> usize
-        ensures { result ≡ least (class_code self) }
+        ensures is { result ≡ least (class_code self) }
+        ensures bits { result ≡ least_in_bits (class_code self) }
     {
         match self {
             Class::Unused | Class::Low | Class::High => 0,
@@ -117,9 +122,11 @@ pub enum Spot {
 
 impl Spot {
     // Whether it takes a class.
-    #[tactic(auto, unfolding(crate::specs::Connectors::takes, crate::specs::Connectors::member))]
+    // `bits`: as the table `takes_in_bits` of bits says, whose law (`takes-bits`) so holds this code.
+    #[tactic(auto, using(crate::proofs::Bits::takes_told), unfolding(crate::specs::Connectors::takes, crate::specs::Connectors::member))]
     pub(crate) fn takes(self, class: Class) -> bool
-        ensures { result ≡ member (class_code class) (takes (spot_code self)) }
+        ensures is { result ≡ member (class_code class) (takes (spot_code self)) }
+        ensures bits { result ≡ takes_in_bits (spot_code self) (class_code class) }
     {
         match self {
             Spot::DigitalInput => !class.is_analog(),

@@ -3,6 +3,8 @@
 
 mod class;
 mod reach;
+mod scope;
 
 pub use class::{Class, Spot};
 pub use reach::Reach;
+pub use scope::Scope;

@@ -1,5 +1,5 @@
 -- Where the code keeps what each destination gets, and what it counts on of the rows. Not part of what a reader has to believe.
-use Rattle.std.specs.Prelude.{ℕ, ◌+◌, ◌-◌, ◌*◌, ◌≤◌, ◌≡◌, List, [], ◌∷◌, length, get_or, set, replicate, ℤ, pos}
+use Rattle.std.specs.Prelude.{ℕ, ◌+◌, ◌-◌, ◌*◌, ◌/◌, ◌^◌, ◌≤◌, ◌≡◌, List, [], ◌∷◌, length, get_or, set, replicate, ℤ, pos, bit_and}
 use Rattle.decoding.specs.Decoded.{Row}
 use Rattle.decoding.specs.Held.{rows_at}
 use Rattle.kept.specs.Keeps.{All}
@@ -10,6 +10,10 @@ use Rattle.destinations.specs.Destinations.{Q, M, AQ, AM, carried}
 -- before the slots of a class: 20 Q, 8 AQ, 64 M, 64 AM
 unfoldable pub base : ℕ → ℕ
 base class = get_or (0 ∷ 0 ∷ 28 ∷ 20 ∷ 92 ∷ []) class 0
+
+-- and as bits of one number, seven for each class
+unfoldable pub base_in_bits : ℕ → ℕ
+base_in_bits class = bit_and (24738463744 / 2 ^ (class * 7)) 127
 
 abbrev pub slot : ℕ → ℕ → ℕ
 slot class number = base class + (number - 1)

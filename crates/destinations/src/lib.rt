@@ -8,7 +8,7 @@ ghost use Rattle.decoding.specs.Decoded.{row_at};
 ghost use Rattle.decoding.specs.Held.{rows_at};
 ghost use Rattle.record.specs.Places.{flag, put, change};
 ghost use Rattle.destinations.specs.Destinations.{M, carried, outputs_of, publish_word};
-ghost use Rattle.destinations.specs.Slots.{base, slot, filled, Aimed, Rows};
+ghost use Rattle.destinations.specs.Slots.{base, base_in_bits, slot, filled, Aimed, Rows};
 
 use fields::Destination;
 use lines::Input;
@@ -21,9 +21,11 @@ const SLOTS: usize = 156;
 pub const OUTPUTS: usize = 28;
 
 // The slots before those of a class. Not the marks of `fields`: the two count the classes in different orders.
-#[tactic(auto, unfolding(crate::specs::Slots::base))]
+// `bits`: as the table `base_in_bits` says, whose law (`base-bits`) so holds this code.
+#[tactic(auto, using(crate::proofs::Bits::base_told), unfolding(crate::specs::Slots::base))]
 fn base_of(class: Destination) -> usize
-    ensures { result ≡ base (class_code class) }
+    ensures is { result ≡ base (class_code class) }
+    ensures bits { result ≡ base_in_bits (class_code class) }
 {
     match class {
         Destination::Output => 0,

@@ -52,6 +52,15 @@ mark-below limits (suc (suc (suc zero))) m l d = let b = d.high in let x = l.aq 
 mark-below limits (suc (suc (suc (suc zero)))) m l d = let b = d.high in let x = l.am in let a = d.low in omega arith
 mark-below limits (suc (suc (suc (suc (suc k))))) m l d = let a = d.low in let b = d.high in let z : ⊥ = omega arith in absurd z
 
+pub spot-below : (class : ℕ) → spot_of class < 5
+unfolding spot_of
+spot-below zero = omega arith
+spot-below (suc zero) = omega arith
+spot-below (suc (suc zero)) = omega arith
+spot-below (suc (suc (suc zero))) = omega arith
+spot-below (suc (suc (suc (suc zero)))) = omega arith
+spot-below (suc (suc (suc (suc (suc k))))) = omega arith
+
 -- a code that no class has
 pub spot-of-none : (code : ℕ) → ((class : Destination) → class_code class ≡ code → ⊥) → 4 ≡ spot_of code
 unfolding spot_of
@@ -70,6 +79,15 @@ limit-of-none limits (suc (suc zero)) none = absurd (none Flag refl)
 limit-of-none limits (suc (suc (suc zero))) none = absurd (none AnalogOutput refl)
 limit-of-none limits (suc (suc (suc (suc zero)))) none = absurd (none AnalogFlag refl)
 limit-of-none limits (suc (suc (suc (suc (suc k))))) none = refl
+
+pub limit-above : (limits : Limits) (k : ℕ) → 4 < k → limit_of limits k ≡ 0
+limit-above limits k h = limit-of-none limits k none
+  where
+    none : (class : Destination) → class_code class ≡ k → ⊥
+    none Output e = omega (arith, e)
+    none Flag e = omega (arith, e)
+    none AnalogOutput e = omega (arith, e)
+    none AnalogFlag e = omega (arith, e)
 
 pub unknown-of-none : (limits : Limits) (code number : ℕ) → ((class : Destination) → class_code class ≡ code → ⊥) → unknown limits code number ≡ true
 unknown-of-none limits code zero none = refl

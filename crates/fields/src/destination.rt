@@ -5,7 +5,7 @@ ghost use Rattle.refusals.specs.Refusals.{number_in};
 ghost use Rattle.connectors.specs.Codes.{spot_code};
 ghost use Rattle.fields.specs.Codes.{class_code, Decodes};
 ghost use Rattle.fields.specs.Fields.{limit_of, spot_of, unknown};
-ghost use Rattle.fields.specs.Marks.{base, mark};
+ghost use Rattle.fields.specs.Marks.{base, mark, base_in_bits, spot_in_bits};
 
 use connectors::Spot;
 use refusals::{Limits, Refusal};
@@ -50,9 +50,11 @@ impl Destination {
     }
 
     // The spot of the connector of its row.
-    #[tactic(auto, unfolding(crate::specs::Fields::spot_of))]
+    // `bits`: as the table `spot_in_bits` says, whose law (`spot-bits`) so holds this code.
+    #[tactic(auto, using(crate::proofs::Bits::spot_told), unfolding(crate::specs::Fields::spot_of))]
     pub(crate) fn spot(self) -> Spot
-        ensures { spot_code result ≡ spot_of (class_code self) }
+        ensures is { spot_code result ≡ spot_of (class_code self) }
+        ensures bits { spot_code result ≡ spot_in_bits (class_code self) }
     {
         match self {
             Destination::Output | Destination::Flag => Spot::DigitalRow,
@@ -61,9 +63,11 @@ impl Destination {
     }
 
     // How many marks stand before those of this class.
-    #[tactic(auto, unfolding(crate::specs::Marks::base))]
+    // `bits`: as the table `base_in_bits` says, whose law (`base-bits`) so holds this code.
+    #[tactic(auto, using(crate::proofs::Bits::base_told), unfolding(crate::specs::Marks::base))]
     fn base(self) -> usize
-        ensures { result ≡ base (class_code self) }
+        ensures is { result ≡ base (class_code self) }
+        ensures bits { result ≡ base_in_bits (class_code self) }
     {
         match self {
             Destination::Output => 0,
@@ -106,4 +110,17 @@ pub(crate) fn mark_at(limits: &Limits, code: u8, number: usize) -> Result<usize,
     ensures mark { IfOk result (λ m. (m ≡ mark code number) × (m < 156)) }
 {
     Destination::try_from(code)?.mark(limits, number)
+}
+
+// The greatest number of a destination class, by the class's number; 0 where it is no class.
+pub fn limit_of(limits: Limits, class: usize) -> usize
+    ensures { result ≡ limit_of limits class }
+{
+    let Ok(code) = u8::try_from(class) else {
+        return 0;
+    };
+    match Destination::try_from(code) {
+        Ok(class) => class.limit(&limits),
+        Err(_) => 0,
+    }
 }

@@ -16,7 +16,7 @@ use refusals::{Field, Limits, Refusal, Stage};
 
 mod destination;
 
-pub use destination::Destination;
+pub use destination::{Destination, limit_of};
 
 // The number of blocks that a header says.
 #[tactic(auto, unfolding(crate::specs::Fields::header_faults))]

@@ -6,7 +6,7 @@ use Rattle.destinations.proofs.Filled.{slot-below}
 use Rattle.destinations.proofs.slot_of.Goals as goal
 
 pub overflow_add-result : goal.overflow_add-result
-overflow_add-result c = omega (arith, c.base_of.ensures, slot-below (class_code c.args.class) c.args.number c.requires)
+overflow_add-result c = omega (arith, c.base_of.ensures.is, slot-below (class_code c.args.class) c.args.number c.requires)
 
 pub returns : goal.returns
-returns c = rw c.base_of.ensures (refl, slot-below (class_code c.args.class) c.args.number c.requires)
+returns c = rw c.base_of.ensures.is (refl, slot-below (class_code c.args.class) c.args.number c.requires)

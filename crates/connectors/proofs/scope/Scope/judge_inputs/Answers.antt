@@ -1,30 +1,20 @@
--- `connectors::Reach::judge_inputs` meets its contract: what is left gives the answer, one connector after the other. Assumes nothing.
+-- `connectors::Scope::judge_inputs` meets its contract: what is left gives the answer, one connector after the other. Assumes nothing.
 use mathlib.Core.Path.{sym, ap, ◌∙◌, refl}
-use mathlib.Core.Bool.{Bool, cond, ◌||◌, false}
+use mathlib.Core.Bool.{Bool, cond, false}
 use native.Mathlib.Omega.{arith}
-use Prim.Native.Nat.{◌+◌}
 use Rattle.refusals.specs.Refusals.{number_of}
 use Rattle.connectors.specs.Codes.{spot_code}
 use Rattle.connectors.specs.Connectors.{wrong, later}
-use Rattle.connectors.proofs.Laws.{any_from, or_false, one-more, from-none, carried-true, carried-false, seven-told, none-told, six-told}
-use Rattle.connectors.proofs.reach.Reach.judge_inputs.Goals.{in-Err+in-OwnOrLaterBlock, in_default}
-use Rattle.connectors.proofs.reach.Reach.judge_inputs.Goals as goal
-
-pub returns-in_default-refusal-clause-number : goal.returns-in_default-refusal-clause-number
-returns-in_default-refusal-clause-number c =
-    let a = c.args in
-    let s = a.self.now in
-    let f = wrong s.limits (spot_code a.spot) (s.blocks + 1) s.n s.sorts.now in
-    let t = six-told _ _ _ c.in-Err.ensures c.in_default-refusal.not-OwnOrLaterBlock in
-    let more = one-more f a.bytes.now a.at a.count c.loop-j.j c.loop-j-test.true in
-    t.1 ∙ ap (λ (x : Bool). cond x 6 0) (sym (more ∙ ap (λ (x : Bool). x || any_from f a.bytes.now a.at a.count (c.loop-j.j + 1)) t.0) ∙ c.loop-j.invariant.0)
+use Rattle.connectors.proofs.Laws.{or_false, one-more, from-none, carried-true, carried-false, seven-told, none-told}
+use Rattle.connectors.proofs.scope.Scope.judge_inputs.Goals.{in-Err+in-OwnOrLaterBlock, in_default}
+use Rattle.connectors.proofs.scope.Scope.judge_inputs.Goals as goal
 
 pub loop-j-preserved : goal.loop-j-preserved
 loop-j-preserved c =
     let a = c.args in
     let s = a.self.now in
-    let f = wrong s.limits (spot_code a.spot) (s.blocks + 1) s.n s.sorts.now in
-    let g = later (s.blocks + 1) in
+    let f = wrong s.limits.now (spot_code a.spot) s.own s.n s.sorts.now in
+    let g = later s.own in
     let wrong_left = one-more f a.bytes.now a.at a.count c.loop-j.j c.loop-j-test.true in
     let later_left = one-more g a.bytes.now a.at a.count c.loop-j.j c.loop-j-test.true in
     elim c.match-judge.branch [
@@ -40,13 +30,13 @@ pub returns-clause-number : goal.returns-clause-number
 returns-clause-number c =
     let a = c.args in
     let s = a.self.now in
-    let f = wrong s.limits (spot_code a.spot) (s.blocks + 1) s.n s.sorts.now in
+    let f = wrong s.limits.now (spot_code a.spot) s.own s.n s.sorts.now in
     ap (λ (x : Bool). cond x 6 0) (sym (from-none f a.bytes.now a.at a.count c.loop-j.j (omega arith)) ∙ c.loop-j.invariant.0)
 
 pub returns-clause-later : goal.returns-clause-later
 returns-clause-later c =
     let a = c.args in
     let s = a.self.now in
-    let none = from-none (later (s.blocks + 1)) a.bytes.now a.at a.count c.loop-j.j (omega arith) in
+    let none = from-none (later s.own) a.bytes.now a.at a.count c.loop-j.j (omega arith) in
     let all = rw none at c.loop-j.invariant.1 in
     sym (or_false c.loop-j.is_later) ∙ all
