@@ -131,11 +131,11 @@ fn answered_for_0ba6(rt: &impl Print, path: &str, circuit: &[u8]) -> io::Result<
 
 // A circuit, under its name.
 fn judged(rt: &impl Print, path: &str, circuit: &[u8]) -> io::Result<()> {
-    let accepted = report::judged(rt, circuit)?;
+    let judged = report::judged(rt, circuit)?;
     answered_for_0ba6(rt, path, circuit)?;
-    match accepted {
-        Some(blocks) => played_with(rt, path, circuit, blocks),
-        None => Ok(()),
+    match judged {
+        Ok((blocks, _)) => played_with(rt, path, circuit, blocks),
+        Err(_) => Ok(()),
     }
 }
 

@@ -152,7 +152,7 @@ pub record Reached (limits : Limits) (s : List ℕ) (at : ℕ) (seen : Seen) : T
   pub same : verdict_at limits s ≡ walk fuel limits s at st
 
 -- at the first field nothing is known
-nothing-held : (limits : Limits) (s : List ℕ) (known : Known) → Modest limits → Nothing known → Holds limits s (seen known) nothing
+pub nothing-held : (limits : Limits) (s : List ℕ) (known : Known) → Modest limits → Nothing known → Holds limits s (seen known) nothing
 unfolding destination_used index_used rows_at
 nothing-held limits s known modest none =
     record {
@@ -178,7 +178,7 @@ nothing-held limits s known modest none =
       registers-long = ap length none.registers ∙ length-replicate {A = Bool} 4 false;
     }
 
-nothing-sound : (known : Known) → Nothing known → Sound (head_of known) 0
+pub nothing-sound : (known : Known) → Nothing known → Sound (head_of known) 0
 nothing-sound known none =
     record {
       fresh = λ z. none.blocks;
@@ -215,7 +215,7 @@ module _ (limits : Limits) (s : List ℕ) (at : ℕ) (seen : Seen) (w : Reached 
       fits : next_at s at ≤ length s
       fits = field_fits limits s at w.st (sym step.number_is ∙ z)
 
-      falls : length s - r.next < length s - at
+      pub falls : length s - r.next < length s - at
       falls = omega (arith, fits, step.next-is z)
 
       pub goes_on : Reached limits s r.next r.seen

@@ -64,16 +64,30 @@ pub fn counts(limits: Limits, circuit: &[u8]) -> Result<(usize, usize), Refused>
     Ok((known.n, known.rows))
 }
 
+// The same of `check`, which answers just this.
+pub fn counts_of(circuit: &[u8]) -> Result<(usize, usize), Refused>
+    ensures { result_answer result ≡ answer_of circuit.now }
+{
+    counts(OURS, circuit)
+}
+
+// The same of `check_profile`.
+pub fn profile_counts_of(circuit: &[u8]) -> Result<(usize, usize), Refused>
+    ensures { result_answer result ≡ answer_at older circuit.now }
+{
+    counts(OLDER, circuit)
+}
+
 // The answer to a circuit: refusal number and place, or blocks and rows.
 pub fn check(circuit: &[u8]) -> Answer
     ensures { result ≡ answer_of circuit.now }
 {
-    Answer::from(counts(OURS, circuit))
+    Answer::from(counts_of(circuit))
 }
 
 // The same, at the limits of the series 0BA6.
 pub fn check_profile(circuit: &[u8]) -> Answer
     ensures { result ≡ answer_at older circuit.now }
 {
-    Answer::from(counts(OLDER, circuit))
+    Answer::from(profile_counts_of(circuit))
 }

@@ -13,12 +13,12 @@ use kinds::Kind;
 use refusals::{Field, Limits, Refusal, Stage};
 
 // What is known of a circuit from the fields so far. Who has it judged owns it and lends it.
-#[derive(Drop)]
+#[derive(Clone, Copy)]
 pub struct Known {
     pub stage: Stage,
     // n of the header, the blocks and the rows so far, and where the first row stands
     pub n: usize,
-    blocks: usize,
+    pub blocks: usize,
     pub rows: usize,
     pub start: usize,
     // of each block where it stands, and whether it is analog: arrays of fixed length, since there is no heap, and two, as each is lent alone

@@ -10,6 +10,7 @@ use lib.ListN.{length, set, take, drop, replicate, length-set}
 use lib.Seq.{get_or-set_same, get_or-set_other}
 use lib.IntN.{ℤ, pos}
 use Rattle.words.proofs.Bounds.{and-true}
+use Rattle.refusals.proofs.Tests.{and-false}
 use Rattle.std.specs.List.{between}
 use Rattle.std.proofs.lemmas.Bool.{cases_lt}
 use Rattle.std.proofs.lemmas.List.{ext_get_or, take_more, length-append, length-take, length-take-le, length-drop, get_or-append_right, get_or_append_left, set_past, get_or-take, length-replicate, get_or-drop, get_or-replicate}
@@ -154,6 +155,15 @@ pub each-every : (n : ℕ) (f : ℕ → Bool) → ((i : ℕ) → i < n → f i �
 unfolding every
 each-every zero f h = refl
 each-every (suc n) f h = rw (each-every n f (λ i g. h i (omega arith)), h n (omega arith))
+
+-- one that fails
+pub one-fails : (n : ℕ) (f : ℕ → Bool) (i : ℕ) → i < n → f i ≡ false → every n f ≡ false
+unfolding every
+one-fails zero f i h e = let z : ⊥ = omega arith in absurd z
+one-fails (suc n) f i h e =
+    ⊎_elim (λ (g : i ≡ n). (and-false (every n f) (f n)).1 (λ t. ap f (sym g) ∙ e))
+    (λ (g : i < n). rw (one-fails n f i g e))
+    (eq-or-lt_of_le {n = i} {m = n} (omega arith))
 
 -- a part of some words
 pub run-all : (r : Range) (l : List ℤ) (a m : ℕ) → a + m ≤ length l → run_fits r l a m ≡ all_fit r (take m (drop a l))

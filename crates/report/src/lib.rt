@@ -29,14 +29,15 @@ fn is_too_long(rt: &impl Print, bytes: &[u8]) -> io::Result<bool> {
     Ok(true)
 }
 
-// Judges a circuit and prints the answer, or that it is too long. Gives how many blocks an accepted one has.
-pub fn judged(rt: &impl Print, bytes: &[u8]) -> io::Result<Option<usize>> {
+// Judges a circuit and prints check's answer, or that it is too long. Gives blocks and rows, or the refusal: of what is too long the one that it is
+// cut short, which no accepted circuit is.
+pub fn judged(rt: &impl Print, bytes: &[u8]) -> io::Result<Result<(usize, usize), Refused>> {
     if is_too_long(rt, bytes)? {
-        return Ok(None);
+        return Ok(Err(Refusal::CutShort.at(0)));
     }
-    let counts = circuit::counts(OURS, bytes);
+    let counts = circuit::counts_of(bytes);
     line(rt, counts.into())?;
-    Ok(counts.ok().map(|(blocks, _)| blocks))
+    Ok(counts)
 }
 
 // ---- the series 0BA6: whether a circuit fits, and if not which field stands in the way
@@ -126,7 +127,7 @@ fn judged_for_0ba6(rt: &impl Print, bytes: &[u8]) -> io::Result<()> {
     if is_too_long(rt, bytes)? {
         return Ok(());
     }
-    let counts = circuit::counts(OLDER, bytes);
+    let counts = circuit::profile_counts_of(bytes);
     line(rt, counts.into())?;
     match counts {
         Ok(_) => println!(rt; "fits 0BA6"),

@@ -27,7 +27,7 @@ loop-limits-preserved c =
 pub returns-then-place-circuit : goal.returns-then-place-circuit
 returns-then-place-circuit c =
     let there : stage_of c.loop-limits.known.stage ≡ ended = search rules in
-    says-surplus _ _ _ (seen c.loop-limits.known) c.loop-limits.invariant.reached there (omega arith) _ _ (c.at-then-place-circuit.ensures ∙ rw c.place-place-2.ensures)
+    says-surplus _ _ _ (seen c.loop-limits.known) c.loop-limits.invariant.reached there (omega arith) _ _ (search rules)
 
 pub returns : goal.returns
 returns c =

@@ -14,20 +14,20 @@ returns-in_err-field-clause-answers c =
     λ st h. refuses (number ∙ cut-short _ _ _ st c.in_err-field.ensures.reads.1) (λ z. omega (arith, number))
 
 pub returns-in-1-clause-answers : goal.returns-in-1-clause-answers
-returns-in-1-clause-answers c = field-header _ _ _ _ c.in_ok-field.field c.in_ok-field.ensures.reads _ _ _ c.in-1.is c.header.ensures.takes
+returns-in-1-clause-answers c = field-header _ _ _ _ c.in_ok-field.field c.in_ok-field.ensures.reads _ _ _ (search rules) c.header.ensures.takes
 
 pub returns-in-16-clause-answers : goal.returns-in-16-clause-answers
-returns-in-16-clause-answers c = field-block _ _ _ _ c.in_ok-field.field c.in_ok-field.ensures.reads _ _ _ c.in-16.is c.block.ensures.takes
+returns-in-16-clause-answers c = field-block _ _ _ _ c.in_ok-field.field c.in_ok-field.ensures.reads _ _ _ (search rules) c.block.ensures.takes
 
 pub returns-in-32-clause-answers : goal.returns-in-32-clause-answers
-returns-in-32-clause-answers c = field-label _ _ _ _ c.in_ok-field.field c.in_ok-field.ensures.reads _ _ _ c.in-32.is (c.label.ensures.takes c.args.limits.now c.in_ok-field.field.bytes.now)
+returns-in-32-clause-answers c = field-label _ _ _ _ c.in_ok-field.field c.in_ok-field.ensures.reads _ _ _ (search rules) (c.label.ensures.takes c.args.limits.now c.in_ok-field.field.bytes.now)
 
 pub returns-in-48-clause-answers : goal.returns-in-48-clause-answers
-returns-in-48-clause-answers c = field_row _ _ _ _ c.in_ok-field.field c.in_ok-field.ensures.reads _ _ _ c.in-48.is c.row.ensures.takes
+returns-in-48-clause-answers c = field_row _ _ _ _ c.in_ok-field.field c.in_ok-field.ensures.reads _ _ _ (search rules) c.row.ensures.takes
 
 pub returns-in-127-clause-answers : goal.returns-in-127-clause-answers
-returns-in-127-clause-answers c = field_end _ _ _ _ c.in_ok-field.field c.in_ok-field.ensures.reads _ _ _ c.in-127.is (c.end.ensures.takes c.args.limits.now c.in_ok-field.field.bytes.now)
+returns-in-127-clause-answers c = field_end _ _ _ _ c.in_ok-field.field c.in_ok-field.ensures.reads _ _ _ (search rules) (c.end.ensures.takes c.args.limits.now c.in_ok-field.field.bytes.now)
 
 pub returns-in_default-clause-answers : goal.returns-in_default-clause-answers
 returns-in_default-clause-answers c =
-    field-other _ _ _ _ c.in_ok-field.field c.in_ok-field.ensures.reads _ _ _ (λ z. omega (arith, z)) (λ z. omega (arith, z)) (λ z. omega (arith, z)) (λ z. omega (arith, z)) (λ z. omega (arith, z)) refl
+    field-other _ _ _ _ c.in_ok-field.field c.in_ok-field.ensures.reads _ _ _ (λ z. search (rules, z)) (λ z. search (rules, z)) (λ z. search (rules, z)) (λ z. search (rules, z)) (λ z. search (rules, z)) refl
