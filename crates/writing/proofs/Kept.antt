@@ -5,6 +5,7 @@ use mathlib.Core.Bool.{Bool, true, false}
 use mathlib.Core.List.{List, [], ◌∷◌, ◌++◌}
 use Prim.Native.Nat.{ℕ, ◌+◌, ◌-◌, ◌≤◌, ◌<◌}
 use native.Mathlib.Numerals.{add-one}
+use native.Mathlib.Nat.{sub-zero}
 use native.Mathlib.Omega.{arith}
 use lib.Dec.{ltb}
 use lib.ListN.{length, get_or, set}
@@ -59,7 +60,9 @@ module _ (bits n : ℕ) (e : bits ≡ n) where
 module _ (s : List ℕ) (room free left at : ℕ) (total : ℕ) (spent : free + total ≡ room + length (rows_at s left at)) where
   pub free_on : 0 < left → (size next : ℕ) → size ≡ length (row_at s at) → next ≡ next_at s at → size ≤ free
       → free - size + total ≡ room + length (rows_at s (left - 1) next)
-  free_on h size next e f g = let l = rows_length s left 0 at h next f in omega arith
+  free_on h size next e f g =
+      let l : length (rows_at s left at) ≡ length (row_at s at) + length (rows_at s (left - 1) next) = rw sub-zero at (rows_length s left 0 at h next f) in
+      omega arith
 
   pub fits_all : left ≤ 0 → (false ≡ ltb room total) × (◌≡◌ {A = Bool} false false → free + total ≡ room)
   fits_all h =
