@@ -7,3 +7,4 @@ pub mod Labels
 pub mod Putting
 pub mod Surveying
 pub mod Answering
+pub mod Kept

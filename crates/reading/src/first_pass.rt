@@ -46,8 +46,9 @@ fn label_size(held: &Held, j: usize, quoted: bool) -> Option<usize>
 {
     let mark = held.number(j, 0, 1)?;
     let size = splitting::content_size(held.text_of(j + 1), quoted);
+    let is_empty = size == 0;
     match mark.size {
-        0 if size == 0 => Some(0),
+        0 if is_empty => Some(0),
         1 if size <= 16 => Some(3 + size),
         _ => None,
     }

@@ -9,7 +9,9 @@ ghost use Rattle.refusals.specs.Answers.{answer_of};
 ghost use Rattle.rows.specs.Reading.{read_answer, circuit_after};
 
 use first_pass::survey;
+pub use first_pass::{Counted, Judged};
 use refusals::{Answer, Refusal, Refused};
+pub use second_pass::Placed;
 use second_pass::{fill, put_head, put_header};
 use splitting::Held;
 

@@ -8,3 +8,4 @@ pub mod Outcome
 pub mod Again
 pub mod Formed
 pub mod Starred
+pub mod Kept

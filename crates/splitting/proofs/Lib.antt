@@ -4,3 +4,4 @@ pub mod Numbers
 pub mod Shapes
 pub mod Copies
 pub mod Packs
+pub mod Kept

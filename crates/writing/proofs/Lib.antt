@@ -3,3 +3,4 @@ pub mod Field
 pub mod Row
 pub mod Standing
 pub mod Answered
+pub mod Kept

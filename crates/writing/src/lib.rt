@@ -80,6 +80,13 @@ fn put_row(bytes: &[u8], at: usize, text: &mut [u8], to: usize) -> Cursor
     }
 }
 
+// What so many bytes leave of a room, if they do not go over it.
+fn left_of(room: usize, size: usize) -> Option<usize>
+    ensures { MatchOption result (room < size) (λ left. left + size ≡ room) }
+{
+    room.checked_sub(size)
+}
+
 // How much the rows of the first `count` entries leave of a room; none where they do not fit.
 fn measure(bytes: &[u8], count: usize, room: usize) -> Option<usize>
     requires { Run bytes.now count 6 }
@@ -89,7 +96,7 @@ fn measure(bytes: &[u8], count: usize, room: usize) -> Option<usize>
     let mut free = room;
     for _ in 0..count {
         let row = row_size(bytes, at);
-        free = free.checked_sub(row.to)?;
+        free = left_of(free, row.to)?;
         at = row.at;
     }
     Some(free)

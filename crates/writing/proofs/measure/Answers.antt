@@ -10,8 +10,8 @@ row_size-row-requires c = run_here _ c.args.count c.loop.counter _ c.loop-test.t
 pub returns-in_err-free : goal.returns-in_err-free
 returns-in_err-free c =
     let l = rows_length c.args.bytes.now c.args.count c.loop.counter c.loop.at c.loop-test.true (next_at c.args.bytes.now c.loop.at) refl in
-    let none : c.checked_sub.result ≡ None = search rules in
-    let short = rw none at c.checked_sub.ensures in
+    let none : c.left_of.result ≡ None = search rules in
+    let short = rw none at c.left_of.ensures in
     rw c.from_residual.ensures (omega (arith, l, c.row_size-row.ensures.0, c.loop.invariant.1, short))
 
 pub loop-preserved : goal.loop-preserved

@@ -9,7 +9,7 @@ returns-in_err-mark c = rw c.from_residual.ensures (looks-as _ _ _ _ c.in_err-ma
 pub returns-in-0 : goal.returns-in-0
 returns-in-0 c =
     let n = c.content_size-size.ensures.0 ∙ ap length (content-as _ _ _ c.args.quoted _ c.text_of.ensures) in
-    looks-as _ _ _ _ c.in_ok-mark.ensures (looks-none _ _ _ n refl c.in-0.is c.if-size-eq0.true)
+    looks-as _ _ _ _ c.in_ok-mark.ensures (looks-none _ _ _ n refl c.in-0.is (omega arith))
 
 pub returns-in-1 : goal.returns-in-1
 returns-in-1 c =
