@@ -6,6 +6,8 @@ use native.Mathlib.Omega.{arith}
 use borrow.Author.Tests.{eqb-true, eqb-false, leb-true, leb-false}
 use lib.Dec.{eqb, leb}
 use lib.ListN.{get_or, get_or-eq_default}
+use Rattle.kinds.specs.Kinds.{known}
+use Rattle.kinds.proofs.Codes.{known_is}
 use Rattle.blocks.specs.Blocks.{idle, rules, worked_out}
 
 -- none of 1 to n
@@ -29,3 +31,8 @@ no-rule (suc k) ne = by (leb (suc k) 19) refl
     by : (b : Bool) → leb (suc k) 19 ≡ b → get_or rules (suc k) idle ≡ idle
     by true e = absurd (none_of (suc k) 19 ne (omega arith) (leb-true (suc k) 19 e))
     by false e = get_or-eq_default rules idle (leb-false (suc k) 19 e)
+
+-- a number that is not known is none of 1 to n
+pub none-known : (kind : ℕ) → known kind ≡ false → (n : ℕ) → n ≤ 19 → NoneOf kind n
+none-known kind e zero h = _
+none-known kind e (suc n) h = (none-known kind e n (omega arith), λ is. grind (arith, known_is, e, is, h))

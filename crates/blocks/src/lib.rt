@@ -4,13 +4,13 @@
 ghost use Rattle.std.specs.Prelude.{◌≡◌, true, ◌≤◌, ◌<◌, ◌^◌, pos};
 ghost use Rattle.words.specs.Signed.{Between, over};
 ghost use Rattle.kinds.specs.Kinds.{kind_of, parameter, allowed};
-ghost use Rattle.kinds.specs.Codes.{byte_of};
+ghost use Rattle.kinds.specs.Codes.{byte_of, Decodes};
 ghost use Rattle.kinds.specs.Time.{ticks};
 ghost use Rattle.rules.specs.Rules.{three, bit, on_delay, off_delay, latching_relay, shift_register, threshold_trigger, compared, multiplexed, amplified, up_down_counter, stairway_switch};
 ghost use Rattle.blocks.specs.Blocks.{time_of, prepared, was_bit, was_on, was_pressed, was_running, was_number, worked_out};
 ghost use Rattle.blocks.specs.Fit.{Fit, Sixteen, Scaling};
 
-use kinds::{Kind, Setting, Ticks};
+use kinds::{Kind, Setting, Ticks, UnknownKind};
 use rules::{BlockWords, Run};
 use stairway::Times;
 
@@ -205,9 +205,20 @@ fn amplify_block(analog: [i32; 2], p: Prepared) -> BlockWords
     thresholds::amplifier(analog[0], p.params)
 }
 
-// What a block's three words become, by its kind: from its digital and analog inputs, resolved together, its parameters, its words and e.
+// The kind that a number is.
+#[tactic(auto, using(kinds::proofs::Codes::known_is))]
+fn kind_from(number: usize) -> Result<Kind, UnknownKind>
+    ensures { Decodes number result }
+{
+    match u8::try_from(number) {
+        Ok(byte) => Kind::try_from(byte),
+        Err(_) => Err(UnknownKind),
+    }
+}
+
+// What the three words of a block of a kind become.
 #[tactic(auto, using(crate::proofs::Ready::by_register), unfolding(crate::specs::Blocks::worked_out, crate::specs::Blocks::rules))]
-pub fn worked_out(
+fn by_kind(
     kind: Kind,
     bits: [bool; 4],
     analog: [i32; 2],
@@ -238,5 +249,24 @@ pub fn worked_out(
         Kind::UpDownCounter => count_block(bits, p, was),
         Kind::StairwaySwitch => stairs_block(bits, p, was, e),
         Kind::Amplifier => amplify_block(analog, p),
+    }
+}
+
+// What a block's three words become, by its kind: from its digital and analog inputs, resolved together, its parameters, its words and e.
+// Three zeros for a number that is no kind.
+pub fn worked_out(
+    kind: usize,
+    bits: [bool; 4],
+    analog: [i32; 2],
+    p: Prepared,
+    was: BlockWords,
+    e: Ticks,
+) -> BlockWords
+    requires { Fit kind p × Sixteen analog × (e.0 < 2 ^ 31) }
+    ensures { result ≡ worked_out kind bits analog p was e }
+{
+    match kind_from(kind) {
+        Ok(kind) => by_kind(kind, bits, analog, p, was, e),
+        Err(_) => rules::three_of(0, 0, 0),
     }
 }

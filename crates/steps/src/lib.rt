@@ -122,7 +122,7 @@ fn becomes(rec: &[i32], k: u16, line: &Line) -> BlockWords
     let values = values_of(rec, line);
     let was = record::words_of(rec, k);
     let e = record::elapsed_of(rec);
-    blocks::worked_out(line.kind, bits, values, line.prepared, was, e)
+    blocks::worked_out(line.kind.code(), bits, values, line.prepared, was, e)
 }
 
 // Works out block k: its three words, and no other.
