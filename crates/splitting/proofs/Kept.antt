@@ -1,7 +1,6 @@
 -- A law that a page names: a minus before 0 changes no bit. Assumes nothing.
 use mathlib.Core.Path.{◌≡◌}
 use mathlib.Core.Bool.{true}
-use Prim.Native.Nat.{ℕ}
 use mir.Syntax.{w32}
 use mir.Val.{of_z}
 use Rattle.digits.specs.Numbers.{Number, value_of}
