@@ -88,6 +88,14 @@ comma-stops : (l : List ℕ) → stops (44 ∷ l) ≡ true
 unfolding stops ending starts
 comma-stops l = refl
 
+quote-stops : (l : List ℕ) → stops (34 ∷ l) ≡ true
+unfolding stops starts
+quote-stops l = refl
+
+feed-stops : (l : List ℕ) → stops (10 ∷ l) ≡ true
+unfolding stops ending starts
+feed-stops l = refl
+
 -- ## One step of a scan
 
 module _ (s : List ℕ) (i : ℕ) where
@@ -110,7 +118,13 @@ plain_other s i h a b c d = plain-next s i h (rw (drop-cons s i 0) (other-goes (
 pub plain_comma : (s : List ℕ) (i : ℕ) → i < length s → get_or s i 0 ≡ 44 → plain_size (drop i s) ≡ 0
 plain_comma s i h e = plain-stop (drop i s) (rw (drop-cons s i 0, e) (comma-stops (drop (suc i) s)))
 
-pub ruleset plain_steps = (plain-stop, plain-next, plain-past, plain_other)
+pub plain_quote : (s : List ℕ) (i : ℕ) → i < length s → get_or s i 0 ≡ 34 → plain_size (drop i s) ≡ 0
+plain_quote s i h e = plain-stop (drop i s) (rw (drop-cons s i 0, e) (quote-stops (drop (suc i) s)))
+
+pub plain_feed : (s : List ℕ) (i : ℕ) → i < length s → get_or s i 0 ≡ 10 → plain_size (drop i s) ≡ 0
+plain_feed s i h e = plain-stop (drop i s) (rw (drop-cons s i 0, e) (feed-stops (drop (suc i) s)))
+
+pub ruleset plain_steps = (plain-stop, plain-next, plain-past, plain_comma, plain_quote, plain_feed, plain_other)
 
 text-first : (l : List ℕ) → 1 ≤ length l → (get_or l 0 0 ≡ 34 → ⊥) → quoted_size l ≡ 1 + quoted_size (drop 1 l)
 text-first [] h n = absurd (omega arith)

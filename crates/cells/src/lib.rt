@@ -67,13 +67,13 @@ fn stops(rest: &[u8]) -> bool
     matches!(rest, [] | [b'"' | b',' | b'\n', ..] | [b'\r', b'\n', ..])
 }
 
-// How many bytes of text a plain cell has that these bytes begin with. Only four bytes can stop it; what is behind is looked at there alone.
+// How many bytes of text a plain cell has that these bytes begin with. Three bytes stop it, and CR may: what is behind is looked at there alone.
 #[tactic(auto, using(crate::proofs::Laws::plain_steps, std::proofs::lemmas::List::take_rest))]
 fn plain_size(rest: &[u8]) -> usize
     ensures { (result ≡ plain_size rest.now) × (result ≤ length rest.now) }
 {
     for (i, b) in rest.iter().enumerate() {
-        if (*b == b',' || *b == b'"' || *b == b'\r' || *b == b'\n') && stops(&rest[i..]) {
+        if *b == b',' || *b == b'"' || *b == b'\n' || *b == b'\r' && stops(&rest[i..]) {
             return i;
         }
     }
