@@ -7,12 +7,12 @@ use native.Mathlib.Nat.{mul-le-mul, div-le_self}
 use native.Mathlib.Omega.{arith}
 use lib.Dec.{T}
 use lib.IntN.{ℤ, pos, negsuc, nat_abs, neg_ℤ, ◌+ℤ◌, ◌-ℤ◌, ◌*ℤ◌}
-use lib.Signed.{le_z, quot_z, non_neg}
+use lib.Signed.{quot_z, non_neg}
 use mir.Syntax.{Width}
 use mir.Val.{Fits, SFits, hbits}
 use mir.ValLaws.{half_full}
 use Rattle.words.specs.Signed.{Between, over}
-use Rattle.words.proofs.Sides.{under, abs_is, fits-sides, sides-fit, le_z-true, le-le_z, neg-over, neg-under, add-sides, sub-sides', quot-over, quot-under}
+use Rattle.words.proofs.Sides.{under, abs_is, fits-sides, sides-fit, le_z-is, lt_z-is, neg-over, neg-under, add-sides, sub-sides', quot-over, quot-under}
 
 -- ---- the size
 
@@ -81,9 +81,7 @@ and-true true false e = (refl, e)
 and-true false b e = (e, absurd (let z : ◌≡◌ {A = ℕ} 0 1 = cc in omega arith))
 
 pub between-sides : {l g x : ℤ} → Between l g x → (over l + under x ≤ over x + under l) × (over x + under g ≤ over g + under x)
-between-sides {l} {g} {x} e =
-    let p = and-true (le_z l x) (le_z x g) e.between in
-    (le_z-true l x p.0, le_z-true x g p.1)
+between-sides {l} {g} {x} e = let h = e.between in (grind (arith, le_z-is, lt_z-is), grind (arith, le_z-is, lt_z-is))
 
 -- between two ends that are not negative, a number is its amount
 pub amount-between : {l g : ℕ} {x : ℤ} → Between (pos l) (pos g) x → (l ≤ over x) × (over x ≤ g)
@@ -92,7 +90,7 @@ amount-between {x = negsuc n} e = let s = between-sides e in absurd (omega arith
 
 -- and back
 pub sides-between : {l g x : ℤ} → over l + under x ≤ over x + under l → over x + under g ≤ over g + under x → Between l g x
-sides-between {l} {g} {x} h k = record { between = simp (le-le_z l x h, le-le_z x g k) }
+sides-between {l} {g} {x} h k = record { between = grind (arith, le_z-is, lt_z-is) }
 
 pub count-between : {n m : ℕ} → n ≤ m → Between (pos 0) (pos m) (pos n)
 count-between h = sides-between (omega arith) (omega arith)
